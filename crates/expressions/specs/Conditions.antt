@@ -1,0 +1,58 @@
+-- The condition that stands in a line, its refusal with the place, and its steps in the order in which they are worked out. Assumes nothing.
+--   kinds ps               the tokens without their places
+--   placeOr z ps           the place of the first token, or z
+--   conditionAt c line from   the expression from offset `from` on, or the number of the refusal and its byte: the place of the first token that
+--                          cannot go on, or one past the line
+--   Item                   a step: a constant, a name with its bytes, or an operation on what the steps before it left
+--   postfix e              the steps of e: operands first, left to right
+--   itemAt line s          the step s of the code, whose name is a part of the line
+--   items line ss          the same for several
+use mathlib.Core.Bool.{Bool}
+use mathlib.Core.List.{List, [], _∷_, _++_, map}
+use Prim.Native.Nat.{ℕ, suc, _-_}
+use lib.ListN.{length, drop, take}
+use Rattle.std.specs.declared.result.Result.{Result}
+use Rattle.std.specs.declared.result.Result.the-variants.{Ok, Err}
+use Rattle.text.specs.Tokens.{Bytes, Tok, Placed, tokensAt}
+use Rattle.expressions.specs.Grammar.{Expr, never, always, named, neg, conj, disj, parsed}
+use Rattle.expressions.specs.declared.condition.Step.{Step}
+use Rattle.expressions.specs.declared.condition.Step.the-variants.{Never, Always, Defined, Not, And, Or}
+
+abbrev pub kinds : List Placed → List Tok
+kinds [] = []
+kinds (p ∷ ps) = p .0 ∷ kinds ps
+
+abbrev pub placeOr : ℕ → List Placed → ℕ
+placeOr z [] = z
+placeOr z (p ∷ ps) = p .1
+
+-- a refusal that leaves some tokens, at its place
+abbrev pub located : ℕ → List Placed → Result Expr (ℕ × List Tok) → Result Expr (ℕ × ℕ)
+located z ps (Ok e) = Ok e
+located z ps (Err f) = Err (f .0, placeOr z (drop (length ps - length (f .1)) ps))
+
+abbrev pub conditionAt : Bool → Bytes → ℕ → Result Expr (ℕ × ℕ)
+conditionAt c line from = located (suc (length line)) (tokensAt c line from) (parsed (kinds (tokensAt c line from)))
+
+pub data Item : Type 0 where
+  false-item true-item not-item and-item or-item : Item
+  name-item : Bytes → Item
+
+abbrev pub postfix : Expr → List Item
+postfix never = false-item ∷ []
+postfix always = true-item ∷ []
+postfix (named x) = name-item x ∷ []
+postfix (neg e) = postfix e ++ not-item ∷ []
+postfix (conj e f) = postfix e ++ (postfix f ++ and-item ∷ [])
+postfix (disj e f) = postfix e ++ (postfix f ++ or-item ∷ [])
+
+abbrev pub itemAt : Bytes → Step → Item
+itemAt line Never = false-item
+itemAt line Always = true-item
+itemAt line (Defined at len) = name-item (take len (drop (at - 1) line))
+itemAt line Not = not-item
+itemAt line And = and-item
+itemAt line Or = or-item
+
+abbrev pub items : Bytes → List Step → List Item
+items line steps = map (itemAt line) steps
