@@ -7,13 +7,18 @@
 --   postfix e              the steps of e: operands first, left to right
 --   itemAt line s          the step s of the code, whose name is a part of the line
 --   items line ss          the same for several
+--   onlyName c line from   the one name from offset `from` on, or the number and the byte of the refusal: 13 where no name stands, 14 at a token behind it
+--   nothingAt c line from  none, or the number and the byte of the refusal of the first token from offset `from` on
 use mathlib.Core.Bool.{Bool}
 use mathlib.Core.List.{List, [], _∷_, _++_, map}
 use Prim.Native.Nat.{ℕ, suc, _-_}
 use lib.ListN.{length, drop, take}
 use Rattle.std.specs.declared.result.Result.{Result}
 use Rattle.std.specs.declared.result.Result.the-variants.{Ok, Err}
-use Rattle.text.specs.Tokens.{Bytes, Tok, Placed, tokensAt}
+use Rattle.std.specs.declared.option.Option.{Option}
+use Rattle.std.specs.declared.option.Option.the-variants.{Some, None}
+use Rattle.text.specs.Tokens.{Bytes, Tok, nought, unit, defined, not, and, or, opened, closed, name, other, Placed, tokensAt}
+use Rattle.text.specs.Pulling.{placeOr as placeIn}
 use Rattle.expressions.specs.Grammar.{Expr, never, always, named, neg, conj, disj, parsed}
 use Rattle.expressions.specs.declared.condition.Step.{Step}
 use Rattle.expressions.specs.declared.condition.Step.the-variants.{Never, Always, Defined, Not, And, Or}
@@ -23,8 +28,7 @@ kinds [] = []
 kinds (p ∷ ps) = p .0 ∷ kinds ps
 
 abbrev pub placeOr : ℕ → List Placed → ℕ
-placeOr z [] = z
-placeOr z (p ∷ ps) = p .1
+placeOr z ps = placeIn z ps
 
 -- a refusal that leaves some tokens, at its place
 abbrev pub located : ℕ → List Placed → Result Expr (ℕ × List Tok) → Result Expr (ℕ × ℕ)
@@ -56,3 +60,34 @@ itemAt line Or = or-item
 
 abbrev pub items : Bytes → List Step → List Item
 items line steps = map (itemAt line) steps
+
+-- no token may stand behind the name
+abbrev pub alone : Bytes → List Placed → Result Bytes (ℕ × ℕ)
+alone x [] = Ok x
+alone x (p ∷ ps) = Err (14, p .1)
+
+abbrev pub nameOf : Tok → ℕ → List Placed → Result Bytes (ℕ × ℕ)
+nameOf nought at ps = Err (13, at)
+nameOf unit at ps = Err (13, at)
+nameOf defined at ps = Err (13, at)
+nameOf not at ps = Err (13, at)
+nameOf and at ps = Err (13, at)
+nameOf or at ps = Err (13, at)
+nameOf opened at ps = Err (13, at)
+nameOf closed at ps = Err (13, at)
+nameOf (name x) at ps = alone x ps
+nameOf other at ps = Err (13, at)
+
+abbrev pub nameAlone : ℕ → List Placed → Result Bytes (ℕ × ℕ)
+nameAlone z [] = Err (13, z)
+nameAlone z (p ∷ ps) = nameOf (p .0) (p .1) ps
+
+abbrev pub onlyName : Bool → Bytes → ℕ → Result Bytes (ℕ × ℕ)
+onlyName c line from = nameAlone (suc (length line)) (tokensAt c line from)
+
+abbrev pub surplusAt : List Placed → Option (ℕ × ℕ)
+surplusAt [] = None
+surplusAt (p ∷ ps) = Some (14, p .1)
+
+abbrev pub nothingAt : Bool → Bytes → ℕ → Option (ℕ × ℕ)
+nothingAt c line from = surplusAt (tokensAt c line from)

@@ -1,4 +1,18 @@
--- The grammar as rules, and what is claimed of reading by it.
+-- The grammar as rules, and what is claimed of reading by it. Assumes nothing.
+--   Part               a term; terms joined by `&&`; these joined by `||`
+--   Derives p l ts e   by the rules the tokens ts are a part p that means e, with at most l of `!` and grouping parentheses around one place
+--   Expression ts e    the same of a whole expression, with at most 16
+--   Exact              reading answers an expression exactly where the rules have one, and that one
+--   One-only           the rules give tokens one meaning at most
+--   Goes-on u, Goes-on-within l u   the tokens u can go on to an expression, with at most 16 levels or with at most l
+--   Stops u n r        behind u the first of r, or the end, cannot stand
+--   At-first           a refusal is at the first token that cannot go on
+--   Term-due u, Name-due u   behind u a term can stand; a name can
+--   wrongTerm r        the number of a refusal where a term is due and r stands
+--   One-too-deep u r   the first of r could stand behind u, were there one level more
+--   Number u n r       the number n of a refusal behind u, where r is left, by what is due there: 13 where a name is; where a term is 15 for a name,
+--                      16 for the `!` or `(` that is one too deep, else 14; 14 where neither is
+--   Numbered           every refusal has that number
 use mathlib.Core.Path.{_≡_}
 use mathlib.Core.List.{List, [], _∷_, _++_}
 use Prim.Native.Nat.{ℕ, suc}
@@ -6,11 +20,9 @@ use Rattle.std.specs.declared.result.Result.the-variants.{Ok, Err}
 use Rattle.text.specs.Tokens.{Bytes, Tok, nought, unit, defined, not, and, or, opened, closed, name, other}
 use Rattle.expressions.specs.Grammar.{Expr, never, always, named, neg, conj, disj, parsed}
 
--- A term; terms joined by `&&`; these joined by `||`.
 pub data Part : Type 0 where
   a-term ands ors : Part
 
--- Which tokens are an expression, where at most l of `!` and grouping parentheses stand around one place.
 pub data Derives : Part → ℕ → List Tok → Expr → Type 0 where
   zero-is : {l : ℕ} → Derives a-term l (nought ∷ []) never
   one-is : {l : ℕ} → Derives a-term l (unit ∷ []) always
@@ -26,14 +38,12 @@ pub data Derives : Part → ℕ → List Tok → Expr → Type 0 where
 abbrev pub Expression : List Tok → Expr → Type 0
 Expression ts e = Derives ors 16 ts e
 
--- Reading answers an expression exactly where the rules have one, and that one.
 abbrev pub Exact : Type 0
 Exact = (ts : List Tok) (e : Expr) → (parsed ts ≡ Ok e → Expression ts e) × (Expression ts e → parsed ts ≡ Ok e)
 
 abbrev pub One-only : Type 0
 One-only = (ts : List Tok) (e f : Expr) → Expression ts e → Expression ts f → e ≡ f
 
--- The tokens u can go on to an expression.
 abbrev pub Goes-on : List Tok → Type 0
 Goes-on u = (w : List Tok) × (e : Expr) × Expression (u ++ w) e
 
@@ -42,7 +52,42 @@ abbrev pub Stops : List Tok → ℕ → List Tok → Type 0
 Stops u n [] = (e : Expr) → Expression u e → ⊥
 Stops u n (x ∷ r) = (v : List Tok) → (parsed (u ++ x ∷ v) ≡ Err (n, x ∷ v)) × ((e : Expr) → Expression (u ++ x ∷ v) e → ⊥)
 
--- A refusal is at the first token that cannot go on.
 abbrev pub At-first : Type 0
 At-first = (ts : List Tok) (n : ℕ) (r : List Tok) → parsed ts ≡ Err (n, r)
     → (u : List Tok) × (ts ≡ u ++ r) × Goes-on u × Stops u n r
+
+abbrev pub Goes-on-within : ℕ → List Tok → Type 0
+Goes-on-within l u = (w : List Tok) × (e : Expr) × Derives ors l (u ++ w) e
+
+-- `0` is a term that can stand wherever one can
+abbrev pub Term-due : List Tok → Type 0
+Term-due u = Goes-on (u ++ nought ∷ [])
+
+-- no name is a term, so that one can stand only behind `defined` and `defined (`
+abbrev pub Name-due : List Tok → Type 0
+Name-due u = (x : Bytes) × Goes-on (u ++ name x ∷ [])
+
+abbrev pub wrongTerm : List Tok → ℕ
+wrongTerm [] = 14
+wrongTerm (nought ∷ r) = 14
+wrongTerm (unit ∷ r) = 14
+wrongTerm (defined ∷ r) = 14
+wrongTerm (not ∷ r) = 16
+wrongTerm (and ∷ r) = 14
+wrongTerm (or ∷ r) = 14
+wrongTerm (opened ∷ r) = 16
+wrongTerm (closed ∷ r) = 14
+wrongTerm (name x ∷ r) = 15
+wrongTerm (other ∷ r) = 14
+
+abbrev pub One-too-deep : List Tok → List Tok → Type 0
+One-too-deep u [] = ⊥
+One-too-deep u (x ∷ r) = Goes-on-within 17 (u ++ x ∷ [])
+
+pub data Number (u : List Tok) (n : ℕ) (r : List Tok) : Type 0 where
+  no-name : n ≡ 13 → Name-due u → (Term-due u → ⊥) → Number u n r
+  no-term : n ≡ wrongTerm r → Term-due u → (Name-due u → ⊥) → (n ≡ 16 → One-too-deep u r) → Number u n r
+  surplus : n ≡ 14 → (Term-due u → ⊥) → (Name-due u → ⊥) → Number u n r
+
+abbrev pub Numbered : Type 0
+Numbered = (u : List Tok) (n : ℕ) (r : List Tok) → parsed (u ++ r) ≡ Err (n, r) → Number u n r

@@ -1,4 +1,18 @@
 -- The expressions of a condition, read from its tokens. Assumes nothing.
+--   Expr                 an expression: a constant, a name that is asked for, a negation, a conjunction, a disjunction
+--   isAnd, isOr, isClose the token is `&&`, `||`, `)`
+--   Out                  what a reader answers: an expression and the tokens behind it, or a refusal's number and the tokens from the one on that
+--                        cannot go on
+--   after o k            what k makes of an expression that was read, and of the tokens behind it
+--   closing e ts         e with its closing parenthesis
+--   insideBy, inside     the name in the parentheses of `defined(`, and the one that closes
+--   nameBy, nameDue      what stands behind `defined`
+--   termBy, first        a term, by the readers of what stands behind `!` and behind `(`
+--   more, chain          parts joined by a token that op tells
+--   andsBy, exprBy       terms joined by `&&`, and these by `||`, by the reader of a term
+--   term l, andsOf l, expr l   a term, and-term and or-term inside which l more of `!` and `(` may stand around one place
+--   ended, finished      nothing may stand behind the expression
+--   parsed ts            the expression that the tokens are, or the refusal
 use mathlib.Core.Bool.{Bool, true, false, cond}
 use mathlib.Core.List.{List, [], _∷_}
 use Prim.Native.Nat.{ℕ, zero, suc}
@@ -146,9 +160,9 @@ abbrev pub ended : Expr → List Tok → Result Expr (ℕ × List Tok)
 ended e [] = Ok e
 ended e (t ∷ r) = Err (14, t ∷ r)
 
-abbrev pub whole : Out → Result Expr (ℕ × List Tok)
-whole (Ok p) = ended (p .0) (p .1)
-whole (Err f) = Err f
+abbrev pub finished : Out → Result Expr (ℕ × List Tok)
+finished (Ok p) = ended (p .0) (p .1)
+finished (Err f) = Err f
 
 abbrev pub parsed : List Tok → Result Expr (ℕ × List Tok)
-parsed ts = whole (expr 16 ts)
+parsed ts = finished (expr 16 ts)

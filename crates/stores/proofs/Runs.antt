@@ -1,12 +1,16 @@
 -- Runs of steps, one after another.
-use mathlib.Core.Path.{_≡_, refl, sym, ap, subst, _∙_}
+use mathlib.Core.Path.{_≡_, refl, sym, ap, subst, fun-ext, _∙_}
 use mathlib.Core.Logic.{_⊎_, inl, inr, ⊎-elim}
-use mathlib.Core.Bool.{Bool}
+use mathlib.Core.Bool.{Bool, true, false}
 use Prim.Native.Nat.{ℕ, _+_}
 use native.Mathlib.Omega.{arith}
+use Rattle.stores.specs.Sets.{Set, Empty, LowestIf}
 use Rattle.stores.specs.Model.{Model, Appended}
+use Rattle.std.specs.Options.{isSome}
+use Rattle.std.specs.declared.option.Option.{Option}
+use Rattle.std.specs.declared.option.Option.the-variants.{Some, None}
 use Rattle.stores.specs.Outcome.{Op, Accepted, Refused, Outcome}
-use Rattle.stores.specs.Steps.{Steps, done, fail, ask, test, then, asked, Runs, Attempt}
+use Rattle.stores.specs.Steps.{Steps, done, fail, ask, test, then, blamed, asked, Runs, Attempt}
 use Rattle.stores.proofs.Models.{appended-none, appended-trans}
 use Rattle.stores.specs.declared.fault.StoreFault.{StoreFault}
 use Rattle.std.specs.declared.result.Result.{Result}
@@ -15,8 +19,27 @@ use Rattle.std.specs.declared.result.Result.the-variants.{Ok, Err}
 pub ok-same : {A F : Type 0} {a b : A} → _≡_ {A = Result A F} (Ok a) (Ok b) → a ≡ b
 ok-same e = cc
 
+pub err-same : {A F : Type 0} {f g : F} → _≡_ {A = Result A F} (Err f) (Err g) → f ≡ g
+err-same e = cc
+
 pub ok-not-err : {A F : Type 0} {a : A} {f : F} → _≡_ {A = Result A F} (Ok a) (Err f) → ⊥
 ok-not-err e = let z : _≡_ {A = ℕ} 0 1 = cc in omega arith
+
+-- what `find` tells of a set
+pub found-none : (a : Set) (o : Option ℕ) → isSome o ≡ false → LowestIf a o → Empty a
+found-none a None e l = l
+found-none a (Some k) e l = let z : _≡_ {A = ℕ} 0 1 = cc in absurd (omega arith)
+
+pub found-some : (a : Set) (o : Option ℕ) → isSome o ≡ true → LowestIf a o → Empty a → ⊥
+found-some a None e l v = let z : _≡_ {A = ℕ} 0 1 = cc in omega arith
+found-some a (Some k) e l v = let t : true ≡ false = sym (l .within) ∙ v k in let z : _≡_ {A = ℕ} 0 1 = cc in omega arith
+
+-- steps may be grouped either way
+pub then-assoc : {A B C F : Type 0} (p : Steps A F) (k : A → Steps B F) (j : B → Steps C F) → then (then p k) j ≡ then p (λ a. then (k a) j)
+then-assoc (done a) k j = refl
+then-assoc (fail f) k j = refl
+then-assoc (ask op blame next) k j = ap (ask op blame) (fun-ext (λ c. then-assoc (next c) k j))
+then-assoc (test b next) k j = ap (test b) (fun-ext (λ c. then-assoc (next c) k j))
 
 module _ {S : Type 0} (model : S → Model) (rollback : S → ℕ → S) (need : S → Op → ℕ) where
   -- p answered, and what follows went on from there
@@ -87,3 +110,31 @@ module _ {S : Type 0} (model : S → Model) (rollback : S → ℕ → S) (need :
     (λ f. absurd (ok-not-err (f .2)))
     (λ a. subst (λ (x : ℕ). Accepted model rollback s s′ (need s op) op x) (sym (ok-same {F = F} (a .3 .0))) (subst (λ (z : S). Accepted model rollback s z (need s op) op (a .0)) (sym (a .3 .1)) (a .2)))
     h
+
+  -- a refusal told otherwise
+  pub runs-blamed-ok : {A F G : Type 0} (g : F → G) (p : Steps A F) (s s′ : S) (a : A) → Runs model rollback need p s s′ (Ok a) → Runs model rollback need (blamed g p) s s′ (Ok a)
+  runs-blamed-ok g (done b) s s′ a h = (ap Ok (ok-same (h .0)), h .1)
+  runs-blamed-ok g (fail f) s s′ a h = absurd (ok-not-err (h .0))
+  runs-blamed-ok g (ask op blame next) s s′ a h = ⊎-elim
+    (λ f. absurd (ok-not-err (f .2)))
+    (λ c. inr (c .0, c .1, c .2, runs-blamed-ok g (next (c .0)) (c .1) s′ a (c .3)))
+    h
+  runs-blamed-ok g (test b next) s s′ a h = (h .0, h .1, h .2, runs-blamed-ok g (next (h .0)) s s′ a (h .3))
+
+  pub runs-blamed-err : {A F G : Type 0} (g : F → G) (p : Steps A F) (s s′ : S) (f : F) → Runs model rollback need p s s′ (Err f) → Runs model rollback need (blamed g p) s s′ (Err (g f))
+  runs-blamed-err g (done b) s s′ f h = absurd (ok-not-err (sym (h .0)))
+  runs-blamed-err {A} {F} g (fail e) s s′ f h = (ap Err (ap g (err-same {A = A} (h .0))), h .1)
+  runs-blamed-err {A} {F} g (ask op blame next) s s′ f h = ⊎-elim
+    (λ x. inl (x .0, x .1, ap Err (ap g (err-same {A = A} (x .2))), x .3))
+    (λ c. inr (c .0, c .1, c .2, runs-blamed-err g (next (c .0)) (c .1) s′ f (c .3)))
+    h
+  runs-blamed-err g (test b next) s s′ f h = (h .0, h .1, h .2, runs-blamed-err g (next (h .0)) s s′ f (h .3))
+
+  pub runs-unblamed : {A F G : Type 0} (g : F → G) (p : Steps A F) (s s′ : S) (a : A) → Runs model rollback need (blamed g p) s s′ (Ok a) → Runs model rollback need p s s′ (Ok a)
+  runs-unblamed {A} {F} {G} g (done b) s s′ a h = (ap Ok (ok-same {F = G} (h .0)), h .1)
+  runs-unblamed g (fail f) s s′ a h = absurd (ok-not-err (h .0))
+  runs-unblamed g (ask op blame next) s s′ a h = ⊎-elim
+    (λ f. absurd (ok-not-err (f .2)))
+    (λ c. inr (c .0, c .1, c .2, runs-unblamed g (next (c .0)) (c .1) s′ a (c .3)))
+    h
+  runs-unblamed g (test b next) s s′ a h = (h .0, h .1, h .2, runs-unblamed g (next (h .0)) s s′ a (h .3))

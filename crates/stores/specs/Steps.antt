@@ -2,6 +2,7 @@
 --   Steps A F            what a call asks: `done a` answers a, `fail f` refuses with f; `ask op blame next` asks an operation, a refusal of
 --                        which is the call's refusal, as `blame` tells it; `test a next` goes on by whether the set held under a is empty
 --   then p k             p, and then what k makes of its answer
+--   blamed g p           p, with each refusal f told as g f
 --   asked op blame       one operation, whose number is the answer
 --   Runs p s s′ r        from the store s the steps p end at s′ with r: the first refusal ends the run, else every operation was accepted
 --   Attempt p s s′ r     the same for a call that gives back what it took when it is refused: s′ is then s
@@ -28,6 +29,12 @@ then (done a) k = k a
 then (fail f) k = fail f
 then (ask op blame next) k = ask op blame (λ c. then (next c) k)
 then (test a next) k = test a (λ b. then (next b) k)
+
+abbrev pub blamed : {A F G : Type 0} → (F → G) → Steps A F → Steps A G
+blamed g (done a) = done a
+blamed g (fail f) = fail (g f)
+blamed g (ask op blame next) = ask op (λ f. g (blame f)) (λ c. blamed g (next c))
+blamed g (test a next) = test a (λ b. blamed g (next b))
 
 abbrev pub asked : {F : Type 0} → Op → (StoreFault → F) → Steps ℕ F
 asked op blame = ask op blame (λ c. done c)

@@ -1,2 +1,4 @@
 pub mod Classes
 pub mod Tokens
+pub mod Pulling
+pub mod Reading

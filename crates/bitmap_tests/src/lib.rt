@@ -1,0 +1,3 @@
+// What bitmap stores should do on examples.
+#[cfg(test)]
+mod tests;

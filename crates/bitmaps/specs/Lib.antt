@@ -1,0 +1,6 @@
+pub mod Layout
+pub mod Meaning
+pub mod Making
+pub mod Operations
+pub mod Stores
+pub mod Laws

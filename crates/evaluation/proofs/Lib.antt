@@ -1,0 +1,4 @@
+pub mod Later
+pub mod Machine
+pub mod Values
+pub mod Turns

@@ -1,0 +1,4 @@
+pub mod Growth
+pub mod Switching
+pub mod Meaning
+pub mod Kept

@@ -1,0 +1,5 @@
+pub mod Faults
+pub mod Layered
+pub mod Laws
+pub mod Preparing
+pub mod Making

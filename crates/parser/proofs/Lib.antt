@@ -1,0 +1,5 @@
+pub mod Moves
+pub mod Parts
+pub mod Loops
+pub mod Arms
+pub mod Lines

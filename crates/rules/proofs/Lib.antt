@@ -1,0 +1,9 @@
+pub mod Parsed
+pub mod Law
+pub mod Known
+pub mod Applied
+pub mod Lined
+pub mod Loop
+pub mod Switching
+pub mod Rules
+pub mod Naming
