@@ -206,7 +206,7 @@ fn names_fit(names: &[&[u8]], n: u32) -> bool
 // Refused, the store is as it was; else it holds the answer's number.
 pub fn read_rules<'a, S: Store>(names: &[&[u8]], text: &'a [u8], lines: usize, store: &mut S) -> Result<Rules<'a>, RuleFault>
     requires { ⌜ valid (now store) ⌝ }
-    ensures valid { λ _. ⌜ valid (now (store .exit)) ⌝ }
+    ensures advanced { λ _. ⌜ Advanced valid model rollback (now (store .entry)) (now (store .exit)) ⌝ }
     ensures outcome { λ r. ⌜ RulesOutcome model rollback need (texts (now (names .entry))) lines (now (text .entry)) (now (store .entry)) (now (store .exit)) r ⌝ }
     ensures allowed { λ r. ⌜ made r (λ rules. Denotes (model (now (store .exit))) (rules .allowed) (allowedBy (model (now (store .entry)) .allowed) (texts (now (names .entry))) (linesOf (now (text .entry))))) ⌝ }
 {
