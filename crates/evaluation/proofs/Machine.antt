@@ -32,15 +32,15 @@ module _ (look : Bytes → Option ℕ) (none top : ℕ) where
       ap (λ (l : List Item). machine l look none top st) (append-assoc (postfix e) (postfix f ++ and-item ∷ []) is ∙ ap (λ (l : List Item). postfix e ++ l) (append-assoc (postfix f) (and-item ∷ []) is))
       ∙ machine-worked e (postfix f ++ (and-item ∷ is)) st
       ∙ ap (then (worked e look none top)) (fun-ext (λ x.
-          machine-worked f (and-item ∷ is) (x ∷ st)
-          ∙ sym (then-assoc (worked f look none top) (λ y. op (both x y)) (goes-on is st))))
+      machine-worked f (and-item ∷ is) (x ∷ st)
+      ∙ sym (then-assoc (worked f look none top) (λ y. op (both x y)) (goes-on is st))))
       ∙ sym (then-assoc (worked e look none top) (λ x. then (worked f look none top) (λ y. op (both x y))) (goes-on is st))
   machine-worked (disj e f) is st =
       ap (λ (l : List Item). machine l look none top st) (append-assoc (postfix e) (postfix f ++ or-item ∷ []) is ∙ ap (λ (l : List Item). postfix e ++ l) (append-assoc (postfix f) (or-item ∷ []) is))
       ∙ machine-worked e (postfix f ++ (or-item ∷ is)) st
       ∙ ap (then (worked e look none top)) (fun-ext (λ x.
-          machine-worked f (or-item ∷ is) (x ∷ st)
-          ∙ sym (then-assoc (worked f look none top) (λ y. op (either x y)) (goes-on is st))))
+      machine-worked f (or-item ∷ is) (x ∷ st)
+      ∙ sym (then-assoc (worked f look none top) (λ y. op (either x y)) (goes-on is st))))
       ∙ sym (then-assoc (worked e look none top) (λ x. then (worked f look none top) (λ y. op (either x y))) (goes-on is st))
 
   then-done : (p : Steps ℕ StoreFault) → then p done ≡ p

@@ -41,18 +41,18 @@ module _ {S : Type 0} (model : S → Model) (rollback : S → ℕ → S) (need :
 
   -- one operand off the stack
   pub runs-not : (top none a : ℕ) (st : List ℕ) (s s′ : S) (r : Result ℕ StoreFault) → a ≡ first none st
-    → Outcome model rollback need s s′ (less top a) r → Runs model rollback need (op (less top (first none st))) s s′ r
+      → Outcome model rollback need s s′ (less top a) r → Runs model rollback need (op (less top (first none st))) s s′ r
   runs-not top none a st s s′ r e h = subst (λ (x : ℕ). Runs model rollback need (op (less top x)) s s′ r) e (runs-op (less top a) s s′ r h)
 
   -- two operands off the stack, the second first
   pub runs-two : (o : ℕ → ℕ → Op) (none a b : ℕ) (st st₁ : List ℕ) (s s′ : S) (r : Result ℕ StoreFault) → b ≡ first none st → st₁ ≡ rest st → a ≡ first none st₁
-    → Outcome model rollback need s s′ (o a b) r → Runs model rollback need (op (o (first none (rest st)) (first none st))) s s′ r
+      → Outcome model rollback need s s′ (o a b) r → Runs model rollback need (op (o (first none (rest st)) (first none st))) s s′ r
   runs-two o none a b st st₁ s s′ r eb e ea h =
       subst (λ (x : ℕ). Runs model rollback need (op (o x (first none st))) s s′ r) (ea ∙ ap (first none) e)
       (subst (λ (y : ℕ). Runs model rollback need (op (o a y)) s s′ r) eb (runs-op (o a b) s s′ r h))
 
   pub runs-at : (line : Bytes) (look : Bytes → Option ℕ) (none top : ℕ) (st : List ℕ) (s s′ : S) (r : Result ℕ StoreFault) {a b : Step} → a ≡ b
-    → Runs model rollback need (one (itemAt line b) look none top st) s s′ r → Runs model rollback need (one (itemAt line a) look none top st) s s′ r
+      → Runs model rollback need (one (itemAt line b) look none top st) s s′ r → Runs model rollback need (one (itemAt line a) look none top st) s s′ r
   runs-at line look none top st s s′ r e h = subst (λ (z : Step). Runs model rollback need (one (itemAt line z) look none top st) s s′ r) (sym e) h
 
   -- what the steps from the i-th on do from here, all steps do from the start
@@ -66,22 +66,22 @@ module _ {S : Type 0} (model : S → Model) (rollback : S → ℕ → S) (need :
     goes-start vs n e s′ r h = subst (λ (j : ℕ). Runs model rollback need (machine (items line steps) look none top (stacked vs j)) s₀ s′ r) e h
 
     pub goes-more : (step : Step) (s s₁ : S) (i c : ℕ) (st st₁ st₂ : List ℕ) → GoesOn line steps look none top s₀ s i st
-      → drop i steps ≡ step ∷ drop (i + 1) steps → Runs model rollback need (one (itemAt line step) look none top st) s s₁ (Ok c)
-      → st₁ ≡ popped (itemAt line step) st → st₂ ≡ c ∷ st₁ → GoesOn line steps look none top s₀ s₁ (i + 1) st₂
+        → drop i steps ≡ step ∷ drop (i + 1) steps → Runs model rollback need (one (itemAt line step) look none top st) s s₁ (Ok c)
+        → st₁ ≡ popped (itemAt line step) st → st₂ ≡ c ∷ st₁ → GoesOn line steps look none top s₀ s₁ (i + 1) st₂
     goes-more step s s₁ i c st st₁ st₂ go e h p q s′ r j =
         let j′ = subst (λ (x : List ℕ). Runs model rollback need (machine (items line (drop (i + 1) steps)) look none top x) s₁ s′ r) (q ∙ ap (λ (x : List ℕ). c ∷ x) p) j in
         go s′ r (subst (λ (l : List Step). Runs model rollback need (machine (items line l) look none top st) s s′ r) (sym e)
-          (runs-then model rollback need (one (itemAt line step) look none top st) (λ d. machine (items line (drop (i + 1) steps)) look none top (d ∷ popped (itemAt line step) st)) s s₁ s′ c r h j′))
+        (runs-then model rollback need (one (itemAt line step) look none top st) (λ d. machine (items line (drop (i + 1) steps)) look none top (d ∷ popped (itemAt line step) st)) s s₁ s′ c r h j′))
 
     pub goes-refused : (step : Step) (s s₁ : S) (i : ℕ) (f : StoreFault) (st : List ℕ) → GoesOn line steps look none top s₀ s i st
-      → drop i steps ≡ step ∷ drop (i + 1) steps → Runs model rollback need (one (itemAt line step) look none top st) s s₁ (Err f)
-      → Runs model rollback need (machine (items line steps) look none top []) s₀ s₁ (Err f)
+        → drop i steps ≡ step ∷ drop (i + 1) steps → Runs model rollback need (one (itemAt line step) look none top st) s s₁ (Err f)
+        → Runs model rollback need (machine (items line steps) look none top []) s₀ s₁ (Err f)
     goes-refused step s s₁ i f st go e h =
         go s₁ (Err f) (subst (λ (l : List Step). Runs model rollback need (machine (items line l) look none top st) s s₁ (Err f)) (sym e)
-          (runs-refused model rollback need (one (itemAt line step) look none top st) (λ d. machine (items line (drop (i + 1) steps)) look none top (d ∷ popped (itemAt line step) st)) s s₁ f h))
+        (runs-refused model rollback need (one (itemAt line step) look none top st) (λ d. machine (items line (drop (i + 1) steps)) look none top (d ∷ popped (itemAt line step) st)) s s₁ f h))
 
     pub goes-end : (s : S) (i v : ℕ) (st : List ℕ) → GoesOn line steps look none top s₀ s i st → length steps ≤ i → v ≡ first none st
-      → Runs model rollback need (machine (items line steps) look none top []) s₀ s (Ok v)
+        → Runs model rollback need (machine (items line steps) look none top []) s₀ s (Ok v)
     goes-end s i v st go e q =
         go s (Ok v) (subst (λ (l : List Step). Runs model rollback need (machine (items line l) look none top st) s s (Ok v)) (sym (drop-all i steps e)) (ap Ok q, refl))
 

@@ -53,7 +53,7 @@ module _ {S : Type 0} (model : S → Model) (rollback : S → ℕ → S) (need :
 
   module _ (look : Bytes → Option ℕ) (none top : ℕ) where
     pub worked-valued : (e : Expr) (s s′ : S) (c : ℕ) → Denotes (model s) none empty → Denotes (model s) top (model s .allowed)
-      → Runs model rollback need (worked e look none top) s s′ (Ok c) → Valued (model s) (model s′) look e c
+        → Runs model rollback need (worked e look none top) s s′ (Ok c) → Valued (model s) (model s′) look e c
     worked-valued never s s′ c zn tp h = at-done look never s s′ c none h (λ T D w n. denotes-agrees zn)
     worked-valued always s s′ c zn tp h = at-done look always s s′ c top h (λ T D w n. agrees-all tp w)
     worked-valued (named x) s s′ c zn tp h = at-done look (named x) s s′ c (entryOr (look x) none) h (λ T D w n. agrees-entry (model s) T (look x) none (λ k. D k x) zn (n x))
@@ -85,6 +85,6 @@ module _ {S : Type 0} (model : S → Model) (rollback : S → ℕ → S) (need :
         subst (λ (p : Steps ℕ StoreFault). Runs model rollback need p s s′ r) (ap (λ (l : List Item). machine l look none top []) q ∙ machine-all look none top e) h
 
     pub worked-made : (e : Expr) (s s′ : S) (r : Result ℕ StoreFault) → Denotes (model s) none empty → Denotes (model s) top (model s .allowed)
-      → Runs model rollback need (worked e look none top) s s′ r → made r (Valued (model s) (model s′) look e)
+        → Runs model rollback need (worked e look none top) s s′ r → made r (Valued (model s) (model s′) look e)
     worked-made e s s′ (Ok c) zn tp h = worked-valued e s s′ c zn tp h
     worked-made e s s′ (Err f) zn tp h = tt

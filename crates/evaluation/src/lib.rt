@@ -14,7 +14,7 @@ ghost use Rattle.expressions.specs.Conditions.{itemAt, items, postfix};
 ghost use Rattle.evaluation.specs.Worked.{one, popped as without, machine, stacked, worked, stepsOf};
 ghost use Rattle.evaluation.specs.Meaning.{Denotes, Valued};
 
-pub mod stack;
+mod stack;
 
 use expressions::condition::Condition;
 use expressions::condition::Step;
@@ -39,7 +39,14 @@ pub struct Constants {
 }
 
 // The number that one step leaves. Its operands come off the stack.
-fn value<S: Store, E: Entries>(line: &[u8], step: Step, entries: &E, known: Constants, store: &mut S, stack: &mut Stack) -> Result<u32, StoreFault>
+fn value<S: Store, E: Entries>(
+    line: &[u8],
+    step: Step,
+    entries: &E,
+    known: Constants,
+    store: &mut S,
+    stack: &mut Stack,
+) -> Result<u32, StoreFault>
     requires { ⌜ valid (now store) ⌝ }
     ensures advanced { λ _. ⌜ Advanced valid model rollback (now (store .entry)) (now (store .exit)) ⌝ }
     ensures runs { λ r. ⌜ Runs model rollback need (one (itemAt (now (line .entry)) step) (lookup (now (entries .entry))) (known .none) (known .top) (stacked (now (stack .entry) .values) (now (stack .entry) .len))) (now (store .entry)) (now (store .exit)) r ⌝ }
@@ -68,7 +75,13 @@ fn value<S: Store, E: Entries>(line: &[u8], step: Step, entries: &E, known: Cons
 }
 
 // Works the steps out in their order. The answer is the number that the last one left.
-fn work_steps<S: Store, E: Entries>(line: &[u8], steps: &[Step], entries: &E, known: Constants, store: &mut S) -> Result<u32, StoreFault>
+fn work_steps<S: Store, E: Entries>(
+    line: &[u8],
+    steps: &[Step],
+    entries: &E,
+    known: Constants,
+    store: &mut S,
+) -> Result<u32, StoreFault>
     requires { ⌜ valid (now store) ⌝ ∗ ⌜ length (now steps) ≤ 255 ⌝ }
     ensures advanced { λ _. ⌜ Advanced valid model rollback (now (store .entry)) (now (store .exit)) ⌝ }
     ensures runs { λ r. ⌜ Runs model rollback need (machine (items (now (line .entry)) (now (steps .entry))) (lookup (now (entries .entry))) (known .none) (known .top) []) (now (store .entry)) (now (store .exit)) r ⌝ }
@@ -82,7 +95,12 @@ fn work_steps<S: Store, E: Entries>(line: &[u8], steps: &[Step], entries: &E, kn
 }
 
 // Works a condition out over the store: operands first, left to right, no shortcuts. The answer is the number of its set.
-pub fn work_out<S: Store, E: Entries>(condition: &Condition<'_>, entries: &E, known: Constants, store: &mut S) -> Result<u32, StoreFault>
+pub fn work_out<S: Store, E: Entries>(
+    condition: &Condition<'_>,
+    entries: &E,
+    known: Constants,
+    store: &mut S,
+) -> Result<u32, StoreFault>
     requires { ⌜ valid (now store) ⌝ }
     ensures advanced { λ _. ⌜ Advanced valid model rollback (now (store .entry)) (now (store .exit)) ⌝ }
     ensures runs { λ r. ⌜ ((e : Expr) → stepsOf (now (condition .entry)) ≡ postfix e → Runs model rollback need (worked e (lookup (now (entries .entry))) (known .none) (known .top)) (now (store .entry)) (now (store .exit)) r) ⌝ }

@@ -18,7 +18,10 @@ impl Stack {
     pub fn new() -> Stack
         ensures { λ r. ⌜ r .len ≡ 0 ⌝ }
     {
-        Stack { values: [0; 255], len: 0 }
+        Stack {
+            values: [0; 255],
+            len: 0,
+        }
     }
 
     // Puts `value` on top; a full stack stays as it is.

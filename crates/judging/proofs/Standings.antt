@@ -29,15 +29,16 @@ pub stand-none : (A : Set) (vs : List Standing) → vs ≡ [] → AllStand A 0 v
 stand-none A vs e = (ap length e, λ i h. absurd (omega (arith, h)))
 
 pub stand-more : (A : Set) (n : ℕ) (vs ws : List Standing) (v : Standing) → ws ≡ vs ++ v ∷ [] → AllStand A n vs → Stands A n v → AllStand A (n + 1) ws
-stand-more A n vs ws v e h s =
-    (ap length e ∙ (let z : length (vs ++ v ∷ []) ≡ n + 1 = omega (arith, length-append vs (v ∷ []), h .0) in z),
-     λ i lt. subst (λ (l : List Standing). Stands A i (getD l i Free)) (sym e) (⊎-elim
-       (λ (low : i < length vs). subst (Stands A i) (sym (List·getD-append vs (v ∷ []) Free i low)) (h .1 i (omega (arith, low, h .0))))
-       (λ (high : length vs ≤ i).
-         let at : length vs ≡ i = omega (arith, high, lt, h .0) in
-         let is : n ≡ i = omega (arith, at, h .0) in
-         subst (λ (j : ℕ). Stands A i (getD (vs ++ v ∷ []) j Free)) at (subst (Stands A i) (sym (getD-append-seam vs v [] Free)) (subst (λ (j : ℕ). Stands A j v) is s)))
-       (cases-lt i (length vs))))
+stand-more A n vs ws v e h s = (
+  ap length e ∙ (let z : length (vs ++ v ∷ []) ≡ n + 1 = omega (arith, length-append vs (v ∷ []), h .0) in z),
+  λ i lt. subst (λ (l : List Standing). Stands A i (getD l i Free)) (sym e) (⊎-elim
+      (λ (low : i < length vs). subst (Stands A i) (sym (List·getD-append vs (v ∷ []) Free i low)) (h .1 i (omega (arith, low, h .0))))
+      (λ (high : length vs ≤ i).
+      let at : length vs ≡ i = omega (arith, high, lt, h .0) in
+      let is : n ≡ i = omega (arith, at, h .0) in
+      subst (λ (j : ℕ). Stands A i (getD (vs ++ v ∷ []) j Free)) at (subst (Stands A i) (sym (getD-append-seam vs v [] Free)) (subst (λ (j : ℕ). Stands A j v) is s)))
+      (cases-lt i (length vs))),
+)
 
 -- of a refusal nothing is claimed
 pub refused-made : {X Y : Type 0} (r : Result X Y) (P : X → Type 0) → isErr r ≡ true → made r P
@@ -54,9 +55,10 @@ layer-allows A A₁ R L sat e r l = fun-ext (λ k. (λ i. l i k) ∙ ap (λ (b :
 
 -- judged over a layer, whose allowed set and number of switches are known
 pub judged : (A L L′ T : Set) (n m k : ℕ) (vs : List Standing) (o : Option ℕ) → L ≡ A → m ≡ n → L′ ≡ L → T ≡ L′ → AllStand L m vs → LowestIf T o → o ≡ Some k → Judged A n vs k
-judged A L L′ T n m k vs o e f g h stand low is =
-    (subst (λ (j : ℕ). AllStand A j vs) f (subst (λ (X : Set). AllStand X m vs) e stand),
-     subst (λ (X : Set). Lowest X k) (h ∙ g ∙ e) (subst (LowestIf T) is low))
+judged A L L′ T n m k vs o e f g h stand low is = (
+  subst (λ (j : ℕ). AllStand A j vs) f (subst (λ (X : Set). AllStand X m vs) e stand),
+  subst (λ (X : Set). Lowest X k) (h ∙ g ∙ e) (subst (LowestIf T) is low),
+)
 
 pub judged-by : (A B : Set) (n m k : ℕ) (vs : List Standing) → A ≡ B → n ≡ m → Judged A n vs k → Judged B m vs k
 judged-by A B n m k vs e f h = subst (λ (j : ℕ). Judged B j vs k) f (subst (λ (X : Set). Judged X n vs k) e h)

@@ -3,7 +3,6 @@ ghost use mathlib.Core.Path.{_≡_};
 ghost use Rattle.judging.specs.Faults.{described};
 ghost use Rattle.judging.specs.declared.fault.JudgingFault.the-variants.{Rules, Store, Layer, OutOfMemory};
 ghost use Rattle.judging.specs.Faults.{ofDeclarations};
-
 use faults::Refusal;
 use layers::fault::LayerFault;
 use rules::declaration::DeclarationFault;

@@ -27,7 +27,9 @@ use rules::declaration::read_switches;
 use rules::reading::read_rules;
 use standing::standing;
 use standing::verdict::Standing;
+use standing::verdict::StandingDisplay;
 use std::alloc::Global;
+use std::fmt;
 use stores::Store;
 
 // How every switch stands among what the store allows. The store is as before.
@@ -44,7 +46,13 @@ fn judge_switches<S: Store>(heap: Global, store: &mut S) -> Result<Vec<Standing>
 }
 
 // The standings of all switches under the rules of `text`, and the lowest configuration that these allow. The store is used up.
-pub fn judge_over<S: Store + Drop>(heap: Global, names: &[&[u8]], text: &[u8], lines: usize, mut store: S) -> Result<(Vec<Standing>, u32), JudgingFault>
+pub fn judge_over<S: Store + Drop>(
+    heap: Global,
+    names: &[&[u8]],
+    text: &[u8],
+    lines: usize,
+    mut store: S,
+) -> Result<(Vec<Standing>, u32), JudgingFault>
     requires { ⌜ valid store ⌝ }
     ensures { λ r. ⌜ made r (λ j. Judged (allowedBy (model store .allowed) (texts (now (names .entry))) (linesOf (now (text .entry)))) (model store .n) (vec-items (j .0)) (j .1)) ⌝ }
 {
@@ -68,8 +76,26 @@ pub struct Judgement<'a> {
     pub lowest: u32,
 }
 
+// A line for each switch, its name and how it stands, and then the lowest configuration.
+pub impl fmt::Display for Judgement<'_> as JudgementDisplay {
+    fn fmt<W: fmt::Write>(&self, f: &mut fmt::Formatter<W>) -> fmt::Result {
+        for (name, standing) in self.names.iter().zip(self.standings.iter()) {
+            for b in *name {
+                f.write_char(char::from(*b))?;
+            }
+            writeln!(f, " {standing}")?;
+        }
+        let lowest = self.lowest;
+        writeln!(f, "lowest {lowest}")
+    }
+}
+
 // Judges a rule text with a bitmap store in the words.
-pub fn judge<'a>(heap: Global, text: &'a [u8], words: &mut [u64]) -> Result<Judgement<'a>, JudgingFault>
+pub fn judge<'a>(
+    heap: Global,
+    text: &'a [u8],
+    words: &mut [u64],
+) -> Result<Judgement<'a>, JudgingFault>
     ensures { λ r. ⌜ made r (JudgedText (now (text .entry))) ⌝ }
 {
     let Declarations { names, lines, rest } = read_switches(heap, text)?;
@@ -77,5 +103,9 @@ pub fn judge<'a>(heap: Global, text: &'a [u8], words: &mut [u64]) -> Result<Judg
     let count = names.len().min(u32::MAX as usize) as u32;
     let store = make(words, count)?;
     let (standings, lowest) = judge_over(heap, names.as_slice(), rest, lines, store)?;
-    Ok(Judgement { names, standings, lowest })
+    Ok(Judgement {
+        names,
+        standings,
+        lowest,
+    })
 }

@@ -13,13 +13,13 @@ use lib.Seq.{take-all}
 use Rattle.lines.specs.Lines.{Line, untilFeed, pastFeed, onto, linesOf, Divided, FirstLine}
 
 more-by : (b : Bool) (x y : ℕ) (ys : List ℕ) → FirstLine (y ∷ ys)
-  → cond b (record { content = []; behind = y ∷ ys } ∷ linesOf (y ∷ ys)) (onto x (linesOf (y ∷ ys)))
-  ≡ record { content = cond b [] (x ∷ untilFeed (y ∷ ys)); behind = cond b (y ∷ ys) (pastFeed (y ∷ ys)) } ∷ linesOf (cond b (y ∷ ys) (pastFeed (y ∷ ys)))
+    → cond b (record { content = []; behind = y ∷ ys } ∷ linesOf (y ∷ ys)) (onto x (linesOf (y ∷ ys)))
+    ≡ record { content = cond b [] (x ∷ untilFeed (y ∷ ys)); behind = cond b (y ∷ ys) (pastFeed (y ∷ ys)) } ∷ linesOf (cond b (y ∷ ys) (pastFeed (y ∷ ys)))
 more-by true x y ys ih = refl
 more-by false x y ys ih = ap (onto x) ih
 
 last-by : (b : Bool) (x : ℕ)
-  → cond b (record { content = []; behind = [] } ∷ []) (record { content = x ∷ []; behind = [] } ∷ []) ≡ record { content = cond b [] (x ∷ []); behind = cond {A = List ℕ} b [] [] } ∷ linesOf (cond b [] [])
+    → cond b (record { content = []; behind = [] } ∷ []) (record { content = x ∷ []; behind = [] } ∷ []) ≡ record { content = cond b [] (x ∷ []); behind = cond {A = List ℕ} b [] [] } ∷ linesOf (cond b [] [])
 last-by true x = refl
 last-by false x = refl
 
@@ -53,9 +53,10 @@ abbrev pub Passed : List ℕ → ℕ → Type 0
 Passed s i = (untilFeed s ≡ take i s ++ untilFeed (drop i s)) × (pastFeed s ≡ pastFeed (drop i s))
 
 pub passed-more : (s : List ℕ) (i : ℕ) → i < length s → eqb (getD s i 0) 10 ≡ false → Passed s i → Passed s (i + 1)
-passed-more s i h e p =
-    (p .0 ∙ ap (λ (r : List ℕ). take i s ++ r) (until-on s i false h e) ∙ sym (append-assoc (take i s) (getD s i 0 ∷ []) (untilFeed (drop (i + 1) s))) ∙ ap (λ (l : List ℕ). l ++ untilFeed (drop (i + 1) s)) (sym (take-more s i 0 h)),
-     p .1 ∙ past-on s i false h e)
+passed-more s i h e p = (
+  p .0 ∙ ap (λ (r : List ℕ). take i s ++ r) (until-on s i false h e) ∙ sym (append-assoc (take i s) (getD s i 0 ∷ []) (untilFeed (drop (i + 1) s))) ∙ ap (λ (l : List ℕ). l ++ untilFeed (drop (i + 1) s)) (sym (take-more s i 0 h)),
+  p .1 ∙ past-on s i false h e,
+)
 
 pub passed-feed : (s : List ℕ) (i : ℕ) → i < length s → eqb (getD s i 0) 10 ≡ true → Passed s i → (take i s ≡ untilFeed s) × (drop (i + 1) s ≡ pastFeed s)
 passed-feed s i h e p =
@@ -67,12 +68,13 @@ passed-all s i h p =
 
 divided-by : (b : Bool) (x : ℕ) (r : List ℕ) → eqb x 10 ≡ b → Divided r (untilFeed r) (pastFeed r) → Divided (x ∷ r) (cond b [] (x ∷ untilFeed r)) (cond b r (pastFeed r))
 divided-by true x r e d = (λ k h. absurd (omega arith), inr (ap (λ (y : ℕ). y ∷ r) (eqb-true x 10 e)))
-divided-by false x r e d =
-    (λ k h q. feedless k h q,
-     ⊎-elim
-       (λ (p : (r ≡ untilFeed r) × (pastFeed r ≡ [])). inl (ap (λ (l : List ℕ). x ∷ l) (p .0), p .1))
-       (λ (p : r ≡ untilFeed r ++ 10 ∷ pastFeed r). inr (ap (λ (l : List ℕ). x ∷ l) p))
-       (d .1))
+divided-by false x r e d = (
+  λ k h q. feedless k h q,
+  ⊎-elim
+      (λ (p : (r ≡ untilFeed r) × (pastFeed r ≡ [])). inl (ap (λ (l : List ℕ). x ∷ l) (p .0), p .1))
+      (λ (p : r ≡ untilFeed r ++ 10 ∷ pastFeed r). inr (ap (λ (l : List ℕ). x ∷ l) p))
+      (d .1),
+)
   where
     feedless : (k : ℕ) → k < length (x ∷ untilFeed r) → getD (x ∷ untilFeed r) k 0 ≡ 10 → ⊥
     feedless zero h q = let z : true ≡ false = sym (eq-eqb x 10 q) ∙ e in let w : _≡_ {A = ℕ} 0 1 = cc in omega arith

@@ -21,7 +21,7 @@ texts-append [] b = refl
 texts-append (r ∷ a) b = ap (λ (l : List (List ℕ)). r .now ∷ l) (texts-append a b)
 
 pub index-turn : (ns : List Part) (x : List ℕ) (i : ℕ) (d : Part) (b : Bool) → i < length ns → b ≡ sameBytes (getD ns i d .now) x
-  → indexFrom i (texts (drop i ns)) x ≡ cond b (Some i) (indexFrom (i + 1) (texts (drop (i + 1) ns)) x)
+    → indexFrom i (texts (drop i ns)) x ≡ cond b (Some i) (indexFrom (i + 1) (texts (drop (i + 1) ns)) x)
 index-turn ns x i d b h e =
     at-drop-more (λ (l : List Part). indexFrom i (texts l) x) ns i d h ∙ ap (λ (t : Bool). cond t (Some i) (indexFrom (i + 1) (texts (drop (i + 1) ns)) x)) (sym e)
 
@@ -30,7 +30,7 @@ index-end ns x i h = at-drop-all (λ (l : List Part). indexFrom i (texts l) x) n
 
 -- the next name, where its earlier place is known
 pub distinct-turn : (ns : List Part) (i : ℕ) (d : Part) (b : Bool) (o : Option ℕ) → i < length ns → o ≡ indexOf (texts (take (i - 0) ns)) (getD ns i d .now) → b ≡ isSome o
-  → distinctFrom (texts (take i ns)) (texts (drop i ns)) ≡ (not b && distinctFrom (texts (take (i + 1) ns)) (texts (drop (i + 1) ns)))
+    → distinctFrom (texts (take i ns)) (texts (drop i ns)) ≡ (not b && distinctFrom (texts (take (i + 1) ns)) (texts (drop (i + 1) ns)))
 distinct-turn ns i d b o h e′ f =
     let z : i - 0 ≡ i = omega arith in
     let e : o ≡ indexOf (texts (take i ns)) (getD ns i d .now) = subst (λ (n : ℕ). o ≡ indexOf (texts (take n ns)) (getD ns i d .now)) z e′ in

@@ -1,7 +1,6 @@
 // Lists of names, each a part of a text: finding one, and whether two are alike. May use `text`.
 ghost use mathlib.Core.Path.{_≡_};
 ghost use Rattle.names.specs.Names.{texts, indexOf, distinct};
-
 use text::is;
 
 // The place of `name` in the list, counted from 0.

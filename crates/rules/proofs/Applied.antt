@@ -38,8 +38,8 @@ module _ {S : Type 0} (model : S → Model) (rollback : S → ℕ → S) (need :
 
   -- the steps of a rule whose names are tested
   tested : (e : Expr) (b : Bool) (next : Next-steps) (s s₁ : S) (r : Result Answer Refusal) → z ≡ Ok e → known names e ≡ b
-    → Runs model rollback need (cond b (then (blamed (λ f. store f l) (worked e look none top)) (λ c. ask (both acc c) (λ f. store f l) next)) (fail (declarations l))) s s₁ r
-    → Runs model rollback need (rule names look none top acc l next z) s s₁ r
+      → Runs model rollback need (cond b (then (blamed (λ f. store f l) (worked e look none top)) (λ c. ask (both acc c) (λ f. store f l) next)) (fail (declarations l))) s s₁ r
+      → Runs model rollback need (rule names look none top acc l next z) s s₁ r
   tested e b next s s₁ r q k h =
       subst (λ (y : Result Expr Refusal). Runs model rollback need (rule names look none top acc l next y) s s₁ r) (sym q)
       (subst (λ (t : Bool). Runs model rollback need (cond t (then (blamed (λ f. store f l) (worked e look none top)) (λ c. ask (both acc c) (λ f. store f l) next)) (fail (declarations l))) s s₁ r) (sym k) h)
@@ -48,23 +48,23 @@ module _ {S : Type 0} (model : S → Model) (rollback : S → ℕ → S) (need :
   undeclared e s q k next = tested e false next s s (Err (declarations l)) q k (refl, refl)
 
   pub unworked : (e : Expr) (s s₁ : S) (a : Result ℕ StoreFault) (g : RuleFault) (r : Result ℕ RuleFault) → z ≡ Ok e → known names e ≡ true
-    → Runs model rollback need (worked e look none top) s s₁ a → _≡_ {A = Result ℕ RuleFault} (Err g) (blamedOn l a) → r ≡ Err g → Applied s s₁ r
+      → Runs model rollback need (worked e look none top) s s₁ a → _≡_ {A = Result ℕ RuleFault} (Err g) (blamedOn l a) → r ≡ Err g → Applied s s₁ r
   unworked e s s₁ (Ok c) g r q k h t w = absurd (ok-not-err (sym t))
   unworked e s s₁ (Err f) g r q k h t w = by s s₁ r (Err (Store f l)) (w ∙ t) (λ next.
-    tested e true next s s₁ (Err (store f l)) q k
+      tested e true next s s₁ (Err (store f l)) q k
       (runs-refused model rollback need (blamed (λ f. store f l) (worked e look none top)) (λ c. ask (both acc c) (λ f. store f l) next) s s₁ (store f l)
-        (runs-blamed-err model rollback need (λ f. store f l) (worked e look none top) s s₁ f h)))
+      (runs-blamed-err model rollback need (λ f. store f l) (worked e look none top) s s₁ f h)))
 
   pub met : (e : Expr) (s s₁ s₂ : S) (a : Result ℕ StoreFault) (c : ℕ) (b : Result ℕ StoreFault) (r : Result ℕ RuleFault) → z ≡ Ok e → known names e ≡ true
-    → Runs model rollback need (worked e look none top) s s₁ a → _≡_ {A = Result ℕ RuleFault} (Ok c) (blamedOn l a) → Outcome model rollback need s₁ s₂ (both acc c) b → r ≡ blamedOn l b → Applied s s₂ r
+      → Runs model rollback need (worked e look none top) s s₁ a → _≡_ {A = Result ℕ RuleFault} (Ok c) (blamedOn l a) → Outcome model rollback need s₁ s₂ (both acc c) b → r ≡ blamedOn l b → Applied s s₂ r
   met e s s₁ s₂ (Err f) c b r q k h t o w = absurd (ok-not-err t)
   met e s s₁ s₂ (Ok c′) c (Ok d) r q k h t o w = by s s₂ r (Ok d) w (λ next s₃ y j.
-    let h′ = subst (λ (x : ℕ). Runs model rollback need (worked e look none top) s s₁ (Ok x)) (sym (ok-same {F = RuleFault} t)) h in
-    tested e true next s s₃ y q k
+      let h′ = subst (λ (x : ℕ). Runs model rollback need (worked e look none top) s s₁ (Ok x)) (sym (ok-same {F = RuleFault} t)) h in
+      tested e true next s s₃ y q k
       (runs-then model rollback need (blamed (λ f. store f l) (worked e look none top)) (λ c. ask (both acc c) (λ f. store f l) next) s s₁ s₃ c y
-        (runs-blamed-ok model rollback need (λ f. store f l) (worked e look none top) s s₁ c h′) (inr (d, s₂, o, j))))
+      (runs-blamed-ok model rollback need (λ f. store f l) (worked e look none top) s s₁ c h′) (inr (d, s₂, o, j))))
   met e s s₁ s₂ (Ok c′) c (Err f) r q k h t o w = by s s₂ r (Err (Store f l)) w (λ next.
-    let h′ = subst (λ (x : ℕ). Runs model rollback need (worked e look none top) s s₁ (Ok x)) (sym (ok-same {F = RuleFault} t)) h in
-    tested e true next s s₂ (Err (store f l)) q k
+      let h′ = subst (λ (x : ℕ). Runs model rollback need (worked e look none top) s s₁ (Ok x)) (sym (ok-same {F = RuleFault} t)) h in
+      tested e true next s s₂ (Err (store f l)) q k
       (runs-then model rollback need (blamed (λ f. store f l) (worked e look none top)) (λ c. ask (both acc c) (λ f. store f l) next) s s₁ s₂ c (Err (store f l))
-        (runs-blamed-ok model rollback need (λ f. store f l) (worked e look none top) s s₁ c h′) (inl (f, record { due = o .due; same = refl }, refl, o .same))))
+      (runs-blamed-ok model rollback need (λ f. store f l) (worked e look none top) s s₁ c h′) (inl (f, record { due = o .due; same = refl }, refl, o .same))))

@@ -15,7 +15,7 @@ use Rattle.rules.specs.Ruled.{known}
 use Rattle.rules.specs.Turns.{knownItem, allKnown}
 
 pub known-turn : (ns : List Bytes) (line : Bytes) (ss : List Step) (i : ℕ) (d : Step) (b : Bool) → i < length ss → b ≡ knownItem ns (itemAt line (getD ss i d))
-  → allKnown ns (items line (drop i ss)) ≡ (b && allKnown ns (items line (drop (i + 1) ss)))
+    → allKnown ns (items line (drop i ss)) ≡ (b && allKnown ns (items line (drop (i + 1) ss)))
 known-turn ns line ss i d b h e =
     at-drop-more (λ (l : List Step). allKnown ns (items line l)) ss i d h ∙ ap (λ (t : Bool). t && allKnown ns (items line (drop (i + 1) ss))) (sym e)
 

@@ -84,9 +84,9 @@ module _ {S : Type 0} (model : S → Model) (rollback : S → ℕ → S) (need :
         → Runs model rollback need (next d) s s′ (Ok a) → Denotes (model s′) (a .0) (λ k. R k && satisfies es (D k))
 
     rule-law : (l : ℕ) (next : ℕ → Steps Answer Refusal) (es : List Expr) (acc : ℕ) (e : Expr) (b : Bool) (s s′ : S) (a : Answer) (R : Set)
-      → Context (model s) A look D none top → Denotes (model s) acc R → ((k : ℕ) → R k ≡ true → A k ≡ true) → Reads next es s′ a
-      → Runs model rollback need (cond b (then (blamed (λ f. described f l) (worked e look none top)) (λ c. ask (both acc c) (λ f. described f l) next)) (fail (declarations l))) s s′ (Ok a)
-      → Denotes (model s′) (a .0) (λ k. R k && satisfies (e ∷ es) (D k))
+        → Context (model s) A look D none top → Denotes (model s) acc R → ((k : ℕ) → R k ≡ true → A k ≡ true) → Reads next es s′ a
+        → Runs model rollback need (cond b (then (blamed (λ f. described f l) (worked e look none top)) (λ c. ask (both acc c) (λ f. described f l) next)) (fail (declarations l))) s s′ (Ok a)
+        → Denotes (model s′) (a .0) (λ k. R k && satisfies (e ∷ es) (D k))
     rule-law l next es acc e false s s′ a R c da sub reads h = absurd (ok-not-err {F = Refusal} (h .0))
     rule-law l next es acc e true s s′ a R c da sub reads h =
         let r = runs-split model rollback need (blamed (λ f. described f l) (worked e look none top)) (λ c. ask (both acc c) (λ f. described f l) next) s s′ a h in
@@ -96,18 +96,19 @@ module _ {S : Type 0} (model : S → Model) (rollback : S → ℕ → S) (need :
         let v = worked-valued model rollback need look none top e s (r .1) (r .0) (c .none-is) top-all w A D (λ k t. (λ i. c .same i k) ∙ t) (c .names) in
         let da₁ = denotes-later g da in
         ⊎-elim
-          (λ f. absurd (ok-not-err {F = Refusal} (f .2)))
-          (λ q.
-            let g₂ = q .2 .grown .appended in
-            let new : Denotes (model (q .1)) (q .0) (λ k. R k && truth e (D k)) = record {
-              within = q .2 .within;
-              is = λ k. (λ i. q .2 .set i k) ∙ ap (λ (x : Bool). x && setAt (model (r .1)) (r .0) k) (da₁ .is k) ∙ meets (R k) (setAt (model (r .1)) (r .0) k) (A k) (truth e (D k)) (λ t. v .is k (sub k t)) } in
-            let last = reads (q .0) (q .1) (λ k. R k && truth e (D k)) (context-later g₂ (context-later g c)) new (λ k t. sub k (and-left (R k) (truth e (D k)) t)) (q .3) in
-            record { within = last .within; is = λ k. last .is k ∙ and-assoc (R k) (truth e (D k)) (satisfies es (D k)) })
-          (r .3)
+        (λ f. absurd (ok-not-err {F = Refusal} (f .2)))
+        (λ q.
+        let g₂ = q .2 .grown .appended in
+        let new : Denotes (model (q .1)) (q .0) (λ k. R k && truth e (D k)) = record {
+          within = q .2 .within;
+          is = λ k. (λ i. q .2 .set i k) ∙ ap (λ (x : Bool). x && setAt (model (r .1)) (r .0) k) (da₁ .is k) ∙ meets (R k) (setAt (model (r .1)) (r .0) k) (A k) (truth e (D k)) (λ t. v .is k (sub k t));
+        } in
+        let last = reads (q .0) (q .1) (λ k. R k && truth e (D k)) (context-later g₂ (context-later g c)) new (λ k t. sub k (and-left (R k) (truth e (D k)) t)) (q .3) in
+        record { within = last .within; is = λ k. last .is k ∙ and-assoc (R k) (truth e (D k)) (satisfies es (D k)) })
+        (r .3)
 
     ended-law : (acc : ℕ) (behind : Bytes) (o : Result (Unit {0}) Refusal) (s s′ : S) (a : Answer) (R : Set) → Denotes (model s) acc R
-      → Runs model rollback need (ended acc behind o) s s′ (Ok a) → Denotes (model s′) (a .0) (λ k. R k && true)
+        → Runs model rollback need (ended acc behind o) s s′ (Ok a) → Denotes (model s′) (a .0) (λ k. R k && true)
     ended-law acc behind (Err f) s s′ a R da h = absurd (ok-not-err {F = Refusal} (h .0))
     ended-law acc behind (Ok u) s s′ a R da h =
         let held = subst (λ (z : S). Denotes (model z) acc R) (sym (h .1)) da in
@@ -119,15 +120,15 @@ module _ {S : Type 0} (model : S → Model) (rollback : S → ℕ → S) (need :
     misplaced-fails l (Err f) s s′ a h = ok-not-err {F = Refusal} (h .0)
 
     rule-read : (l : ℕ) (next : ℕ → Steps Answer Refusal) (es : List Expr) (acc : ℕ) (b : Bool) (r : Result Expr (ℕ × ℕ)) (t : Refusal) (s s′ : S) (a : Answer) (R : Set)
-      → Context (model s) A look D none top → Denotes (model s) acc R → ((k : ℕ) → R k ≡ true → A k ≡ true) → Reads next es s′ a
-      → Runs model rollback need (rule names look none top acc l next (cond b (Err t) (onLine l r))) s s′ (Ok a) → Denotes (model s′) (a .0) (λ k. R k && satisfies (also r es) (D k))
+        → Context (model s) A look D none top → Denotes (model s) acc R → ((k : ℕ) → R k ≡ true → A k ≡ true) → Reads next es s′ a
+        → Runs model rollback need (rule names look none top acc l next (cond b (Err t) (onLine l r))) s s′ (Ok a) → Denotes (model s′) (a .0) (λ k. R k && satisfies (also r es) (D k))
     rule-read l next es acc true r t s s′ a R c da sub reads h = absurd (ok-not-err {F = Refusal} (h .0))
     rule-read l next es acc false (Ok e) t s s′ a R c da sub reads h = rule-law l next es acc e (known names e) s s′ a R c da sub reads h
     rule-read l next es acc false (Err f) t s s′ a R c da sub reads h = absurd (ok-not-err {F = Refusal} (h .0))
 
     kind-law : (kind : LineKind) (x : Line) (l : ℕ) (next : ℕ → Steps Answer Refusal) (es : List Expr) (acc : ℕ) (s s′ : S) (a : Answer) (R : Set)
-      → Context (model s) A look D none top → Denotes (model s) acc R → ((k : ℕ) → R k ≡ true → A k ≡ true) → Reads next es s′ a
-      → Runs model rollback need (byKind kind names look none top acc l x next) s s′ (Ok a) → Denotes (model s′) (a .0) (λ k. R k && satisfies (rulesBy kind (x .content) es) (D k))
+        → Context (model s) A look D none top → Denotes (model s) acc R → ((k : ℕ) → R k ≡ true → A k ≡ true) → Reads next es s′ a
+        → Runs model rollback need (byKind kind names look none top acc l x next) s s′ (Ok a) → Denotes (model s′) (a .0) (λ k. R k && satisfies (rulesBy kind (x .content) es) (D k))
     kind-law Blank x l next es acc s s′ a R c da sub reads h = reads acc s R c da sub h
     kind-law (Rule from) x l next es acc s s′ a R c da sub reads h =
         rule-read l next es acc (ltb 255 (length (x .content))) (conditionAt false (x .content) from) _ s s′ a R c da sub reads h
@@ -137,8 +138,8 @@ module _ {S : Type 0} (model : S → Model) (rollback : S → ℕ → S) (need :
     kind-law Foreign x l next es acc s s′ a R c da sub reads h = absurd (misplaced-fails l (readIn (x .content) l (unless None)) s s′ a h)
 
     pub ruling-law : (lines : List Line) (l acc : ℕ) (s s′ : S) (a : Answer) (R : Set)
-      → Context (model s) A look D none top → Denotes (model s) acc R → ((k : ℕ) → R k ≡ true → A k ≡ true)
-      → Runs model rollback need (ruling names look none top acc l lines) s s′ (Ok a) → Denotes (model s′) (a .0) (λ k. R k && satisfies (rulesIn lines) (D k))
+        → Context (model s) A look D none top → Denotes (model s) acc R → ((k : ℕ) → R k ≡ true → A k ≡ true)
+        → Runs model rollback need (ruling names look none top acc l lines) s s′ (Ok a) → Denotes (model s′) (a .0) (λ k. R k && satisfies (rulesIn lines) (D k))
     ruling-law [] l acc s s′ a R c da sub h = absurd (ok-not-err {F = Refusal} (h .0))
     ruling-law (x ∷ xs) l acc s s′ a R c da sub h =
         kind-law (kindOf (x .content)) x (nextLine l) (λ d. ruling names look none top d (nextLine l) xs) (rulesIn xs) acc s s′ a R c da sub
@@ -157,13 +158,13 @@ numbers-more {m} {m′} {A} {ns} more i c g n e d =
     record {
       same = g .same .allowed ∙ n .same;
       sets = λ j h. ⊎-elim
-        (λ (lt : j < length ns). subst (λ (x : ℕ). Denotes m′ x (A ∩ on j)) (sym (List·getD-append ns (c ∷ []) 0 j lt)) (denotes-later g (n .sets j lt)))
-        (λ (ge : length ns ≤ j).
+          (λ (lt : j < length ns). subst (λ (x : ℕ). Denotes m′ x (A ∩ on j)) (sym (List·getD-append ns (c ∷ []) 0 j lt)) (denotes-later g (n .sets j lt)))
+          (λ (ge : length ns ≤ j).
           let is : length ns ≡ j = omega (arith, h, ge, length-append ns (c ∷ [])) in
           subst (λ (q : ℕ). Denotes m′ (getD (ns ++ c ∷ []) q 0) (A ∩ on q)) is
-            (subst (λ (x : ℕ). Denotes m′ x (A ∩ on (length ns))) (sym (getD-append-seam ns c [] 0))
-              (subst (λ (q : ℕ). Denotes m′ c (A ∩ on q)) e (subst (λ (x : Set). Denotes m′ c (x ∩ on i)) (n .same) d))))
-        (cases-lt j (length ns));
+          (subst (λ (x : ℕ). Denotes m′ x (A ∩ on (length ns))) (sym (getD-append-seam ns c [] 0))
+          (subst (λ (q : ℕ). Denotes m′ c (A ∩ on q)) e (subst (λ (x : Set). Denotes m′ c (x ∩ on i)) (n .same) d))))
+          (cases-lt j (length ns));
     }
 
 none-some : (i : ℕ) → _≡_ {A = Option ℕ} None (Some i) → ⊥
@@ -187,26 +188,26 @@ entries-named m A names ns e n x = by-index (indexOf names x) (λ i q. index-wit
     by-index (Some i) h =
         let lt : i < length ns = omega (arith, h i refl, e) in
         subst (λ (b : Bool). Entry m A (cond b (Some (getD ns i 0)) None) (on i)) (sym (lt-ltb i (length ns) lt))
-          (record { within = n .sets i lt .within; is = λ k t. n .sets i lt .is k ∙ ap (λ (b : Bool). b && on i k) t })
+        (record { within = n .sets i lt .within; is = λ k t. n .sets i lt .is k ∙ ap (λ (b : Bool). b && on i k) t })
 
 module _ {S : Type 0} (model : S → Model) (rollback : S → ℕ → S) (need : S → Op → ℕ) where
   switching-law : {B : Type 0} (A : Set) (n i : ℕ) (ns : List ℕ) (k : List ℕ → Steps B Refusal) (s s′ : S) (a : B) → Numbers (model s) A ns → i ≡ length ns
-    → Runs model rollback need (switching n i ns k) s s′ (Ok a)
-    → (ms : List ℕ) × (s₁ : S) × (more : ℕ) × Appended (model s) (model s₁) more × Numbers (model s₁) A ms × (length ms ≡ i + n) × Runs model rollback need (k ms) s₁ s′ (Ok a)
+      → Runs model rollback need (switching n i ns k) s s′ (Ok a)
+      → (ms : List ℕ) × (s₁ : S) × (more : ℕ) × Appended (model s) (model s₁) more × Numbers (model s₁) A ms × (length ms ≡ i + n) × Runs model rollback need (k ms) s₁ s′ (Ok a)
   switching-law A zero i ns k s s′ a N e h = (ns, s, 0, appended-none (model s), N, omega (arith, e), h)
   switching-law A (suc n) i ns k s s′ a N e h = ⊎-elim
-    (λ f. absurd (ok-not-err {F = Refusal} (f .2)))
-    (λ q.
+      (λ f. absurd (ok-not-err {F = Refusal} (f .2)))
+      (λ q.
       let g = q .2 .grown .appended in
       let d : Denotes (model (q .1)) (q .0) (model s .allowed ∩ on i) = record { within = q .2 .within; is = λ j t. q .2 .set t j } in
       let r = switching-law A n (i + 1) (ns ++ q .0 ∷ []) k (q .1) s′ a (numbers-more _ i (q .0) g N e d) (omega (arith, e, length-append ns (q .0 ∷ []))) (q .3) in
       (r .0, r .1, need s (switch i) + r .2, appended-trans g (r .3), r .4, omega (arith, r .5), r .6))
-    h
+      h
 
   -- an accepted reading answers exactly the allowed configurations that satisfy every rule
   pub ruled-law : (names : List Bytes) (n none top l : ℕ) (text : Bytes) (s s′ : S) (a : Answer) → length names ≡ n
-    → Denotes (model s) none empty → Denotes (model s) top (model s .allowed) → Runs model rollback need (ruled names n none top l text) s s′ (Ok a)
-    → Denotes (model s′) (a .0) (allowedBy (model s .allowed) names (linesOf text))
+      → Denotes (model s) none empty → Denotes (model s) top (model s .allowed) → Runs model rollback need (ruled names n none top l text) s s′ (Ok a)
+      → Denotes (model s′) (a .0) (allowedBy (model s .allowed) names (linesOf text))
   ruled-law names n none top l text s s′ a e zn tp h =
       let A = model s .allowed in
       let k = λ (ns : List ℕ). ruling names (entryOf names ns) none top top l (linesOf text) in
@@ -215,5 +216,6 @@ module _ {S : Type 0} (model : S → Model) (rollback : S → ℕ → S) (need :
         same = r .4 .same;
         none-is = denotes-later (r .3) zn;
         top-is = denotes-later (r .3) tp;
-        names = entries-named (model (r .1)) A names (r .0) (omega (arith, e, r .5)) (r .4) } in
+        names = entries-named (model (r .1)) A names (r .0) (omega (arith, e, r .5)) (r .4);
+      } in
       ruling-law model rollback need A names (entryOf names (r .0)) (defines names) none top (linesOf text) l top (r .1) s′ a A c (denotes-later (r .3) tp) (λ k t. t) (r .6)

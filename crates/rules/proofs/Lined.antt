@@ -43,22 +43,22 @@ module _ {S : Type 0} (model : S → Model) (rollback : S → ℕ → S) (need :
   blank s e = by Blank s s (Ok (Next acc)) (Ok (Next acc)) e refl (λ b next s₂ r h. h)
 
   pub rule-refused : (from : ℕ) (f : RuleFault) (s s₁ : S) (r : Result Turn RuleFault) → Rule from ≡ kind → r ≡ Err f
-    → Goes model rollback need (λ next. rule names look none top acc l next (readIn line l (conditionAt false line from))) s s₁ (Err f) → LineTurned s s₁ r
+      → Goes model rollback need (λ next. rule names look none top acc l next (readIn line l (conditionAt false line from))) s s₁ (Err f) → LineTurned s s₁ r
   rule-refused from f s s₁ r e q h = by (Rule from) s s₁ r (Err f) e q (λ b next. h next)
 
   pub rule-read : (from d : ℕ) (s s₁ : S) → Rule from ≡ kind
-    → Goes model rollback need (λ next. rule names look none top acc l next (readIn line l (conditionAt false line from))) s s₁ (Ok d) → LineTurned s s₁ (Ok (Next d))
+      → Goes model rollback need (λ next. rule names look none top acc l next (readIn line l (conditionAt false line from))) s s₁ (Ok d) → LineTurned s s₁ (Ok (Next d))
   rule-read from d s s₁ e h = by (Rule from) s s₁ (Ok (Next d)) (Ok (Next d)) e refl (λ b next s₂ r j. h next s₂ r j)
 
   pub begin-refused : (from : ℕ) (f : ExpressionFault) (s : S) (r : Result Turn RuleFault) → Begin from ≡ kind → r ≡ Err (Expression f)
-    → readIn line l (unless (nothingAt false line from)) ≡ Err (expression f) → LineTurned s s r
+      → readIn line l (unless (nothingAt false line from)) ≡ Err (expression f) → LineTurned s s r
   begin-refused from f s r e q h = by (Begin from) s s r (Err (Expression f)) e q (λ b next. subst (λ (z : Result (Unit {0}) Refusal). Runs model rollback need (ended acc b z) s s (Err (expression f))) (sym h) (refl, refl))
 
   pub begin-read : (from : ℕ) (s : S) → Begin from ≡ kind → readIn line l (unless (nothingAt false line from)) ≡ Ok tt → LineTurned s s (Ok Last)
   begin-read from s e h = by (Begin from) s s (Ok Last) (Ok Last) e refl (λ b next. subst (λ (z : Result (Unit {0}) Refusal). Runs model rollback need (ended acc b z) s s (Ok (acc, b))) (sym h) (refl, refl))
 
   pub switch-refused : (from : ℕ) (f : ExpressionFault) (s : S) (r : Result Turn RuleFault) → Switch from ≡ kind → r ≡ Err (Expression f)
-    → readIn line l (onlyName false line from) ≡ Err (expression f) → LineTurned s s r
+      → readIn line l (onlyName false line from) ≡ Err (expression f) → LineTurned s s r
   switch-refused from f s r e q h = by (Switch from) s s r (Err (Expression f)) e q (λ b next. subst (λ (z : Result Bytes Refusal). Runs model rollback need (misplaced l z) s s (Err (expression f))) (sym h) (refl, refl))
 
   pub switch-late : (from : ℕ) (x : Bytes) (s : S) → Switch from ≡ kind → readIn line l (onlyName false line from) ≡ Ok x → LineTurned s s (Err (Misplaced l))

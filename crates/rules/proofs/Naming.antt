@@ -34,8 +34,8 @@ module _ (names : List Bytes) (l l′ : ℕ) (rest line behind : Bytes) (first :
   blank-turn e = by-kind Blank e
 
   pub switch-turn : (from : ℕ) (x : Bytes) (seen more : List Bytes) → Switch from ≡ kindOf line → seen ≡ names
-    → ((next : List Bytes → Result Declared Refusal) → named seen l′ next (readIn line l′ (onlyName false line from)) ≡ next (seen ++ x ∷ [])) → more ≡ names ++ x ∷ []
-    → declared names l rest (linesOf rest) ≡ declared more l′ behind (linesOf behind)
+      → ((next : List Bytes → Result Declared Refusal) → named seen l′ next (readIn line l′ (onlyName false line from)) ≡ next (seen ++ x ∷ [])) → more ≡ names ++ x ∷ []
+      → declared names l rest (linesOf rest) ≡ declared more l′ behind (linesOf behind)
   switch-turn from x seen more e s h q =
       let next = λ (ns : List Bytes). declared ns l′ behind (linesOf behind) in
       by-kind (Switch from) e

@@ -29,9 +29,9 @@ module _ (line : Bytes) (l : ℕ) where
   -- a line that is too long, or one whose tokens decide
   by-length : {A : Type 0} (z : Result A (ℕ × ℕ)) (P : Result A Refusal → Type 0) → (255 < length line → P (Err (described (LineTooLong l)))) → (length line ≤ 255 → P (onLine l z)) → P (readIn line l z)
   by-length z P long short = ⊎-elim
-    (λ (e : ltb 255 (length line) ≡ true). subst (λ (b : Bool). P (cond b (Err (described (LineTooLong l))) (onLine l z))) (sym e) (long (ltb-true 255 (length line) e)))
-    (λ (e : ltb 255 (length line) ≡ false). subst (λ (b : Bool). P (cond b (Err (described (LineTooLong l))) (onLine l z))) (sym e) (short (ltb-false 255 (length line) e)))
-    (cases-bool (ltb 255 (length line)))
+      (λ (e : ltb 255 (length line) ≡ true). subst (λ (b : Bool). P (cond b (Err (described (LineTooLong l))) (onLine l z))) (sym e) (long (ltb-true 255 (length line) e)))
+      (λ (e : ltb 255 (length line) ≡ false). subst (λ (b : Bool). P (cond b (Err (described (LineTooLong l))) (onLine l z))) (sym e) (short (ltb-false 255 (length line) e)))
+      (cases-bool (ltb 255 (length line)))
 
   abbrev ReadCondition : Result Condition ExpressionFault → Result Expr Refusal → Type 0
   ReadCondition (Ok k) z = (k .line .now ≡ line) × ((e : Expr) × (z ≡ Ok e) × (items line (take (k .len) (k .steps)) ≡ postfix e))

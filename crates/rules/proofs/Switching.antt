@@ -37,18 +37,18 @@ module _ {S : Type 0} (model : S → Model) (rollback : S → ℕ → S) (need :
   goes-start s′ r h = subst (λ (j : ℕ). Runs model rollback need (switching j 0 [] done) s₀ s′ r) (let z : n - 0 ≡ n = omega arith in z) h
 
   one : (i : ℕ) (ns : List ℕ) (s s′ : S) (r : Result (List ℕ) Refusal) → i < n
-    → Runs model rollback need (ask (switch i) (λ f. store f 0) (λ c. switching (n - (i + 1)) (i + 1) (ns ++ c ∷ []) done)) s s′ r → Runs model rollback need (switching (n - i) i ns done) s s′ r
+      → Runs model rollback need (ask (switch i) (λ f. store f 0) (λ c. switching (n - (i + 1)) (i + 1) (ns ++ c ∷ []) done)) s s′ r → Runs model rollback need (switching (n - i) i ns done) s s′ r
   one i ns s s′ r lt h = subst (λ (j : ℕ). Runs model rollback need (switching j i ns done) s s′ r) (let z : suc (n - (i + 1)) ≡ n - i = omega arith in z) h
 
   pub goes-more : (i c : ℕ) (vs : List ℕ) (s s₁ : S) (q : Result ℕ StoreFault) → i < n → i < length vs → GoesOn i (take i vs) s → Outcome model rollback need s s₁ (switch i) q
-    → _≡_ {A = Result ℕ RuleFault} (Ok c) (blamedOn 0 q) → GoesOn (i + 1) (take (i + 1) (set vs i c)) s₁
+      → _≡_ {A = Result ℕ RuleFault} (Ok c) (blamedOn 0 q) → GoesOn (i + 1) (take (i + 1) (set vs i c)) s₁
   goes-more i c vs s s₁ (Err f) lt lv go o e s′ r h = absurd (ok-not-err e)
   goes-more i c vs s s₁ (Ok d) lt lv go o e s′ r h =
       let h′ = subst (λ (l : List ℕ). Runs model rollback need (switching (n - (i + 1)) (i + 1) l done) s₁ s′ r) (take-more-set vs i c lv ∙ ap (λ (x : ℕ). take i vs ++ x ∷ []) (ok-same {F = RuleFault} e)) h in
       go s′ r (one i (take i vs) s s′ r lt (inr (d, s₁, o, h′)))
 
   pub goes-refused : (i : ℕ) (g : RuleFault) (ns : List ℕ) (s s₁ : S) (q : Result ℕ StoreFault) → i < n → GoesOn i ns s → Outcome model rollback need s s₁ (switch i) q
-    → _≡_ {A = Result ℕ RuleFault} (Err g) (blamedOn 0 q) → Runs model rollback need (switching n 0 [] done) s₀ s₁ (Err (described g))
+      → _≡_ {A = Result ℕ RuleFault} (Err g) (blamedOn 0 q) → Runs model rollback need (switching n 0 [] done) s₀ s₁ (Err (described g))
   goes-refused i g ns s s₁ (Ok d) lt go o e = absurd (ok-not-err (sym e))
   goes-refused i g ns s s₁ (Err f) lt go o e =
       go s₁ (Err (described g)) (one i ns s s₁ (Err (described g)) lt (inl (f, record { due = o .due; same = refl }, ap Err (ap described (err-same {A = ℕ} e)), o .same)))
@@ -66,6 +66,6 @@ module _ {S A : Type 0} (model : S → Model) (rollback : S → ℕ → S) (need
   switched-refused s s₁ f h = by-then s s₁ (Err f) (runs-refused model rollback need (switching n 0 [] done) k s s₁ f h)
 
   pub switched : (ns ms : List ℕ) (s s₁ s₂ : S) (r : Result A Refusal) → ms ≡ ns → Runs model rollback need (switching n 0 [] done) s s₁ (Ok ns) → Runs model rollback need (k ms) s₁ s₂ r
-    → Runs model rollback need (switching n 0 [] k) s s₂ r
+      → Runs model rollback need (switching n 0 [] k) s s₂ r
   switched ns ms s s₁ s₂ r e h j =
       by-then s s₂ r (runs-then model rollback need (switching n 0 [] done) k s s₁ s₂ ns r h (subst (λ (x : List ℕ). Runs model rollback need (k x) s₁ s₂ r) e j))

@@ -7,7 +7,6 @@ ghost use Rattle.expressions.specs.Conditions.{onlyName};
 ghost use Rattle.expressions.specs.Placed.{readIn};
 ghost use Rattle.rules.specs.declared.declaration.DeclarationFault.the-variants.{Rules, OutOfMemory};
 ghost use Rattle.rules.specs.Declarations.{NameOutcome, DeclarationsOutcome};
-
 use crate::fault::ExpressionInRules;
 use crate::fault::RuleFault;
 use crate::fault::RuleFaultDebug;
@@ -60,7 +59,12 @@ pub impl<T: Drop> From<Refused<T>> for DeclarationFault as NoPlaceInDeclarations
 }
 
 // The name behind offset `from` of a `switch` line, which may not be one of those before it.
-fn new_name<'a>(line: &'a [u8], from: usize, number: usize, names: &[&[u8]]) -> Result<&'a [u8], RuleFault>
+fn new_name<'a>(
+    line: &'a [u8],
+    from: usize,
+    number: usize,
+    names: &[&[u8]],
+) -> Result<&'a [u8], RuleFault>
     ensures { λ r. ⌜ NameOutcome (texts (now (names .entry))) number (readIn (now (line .entry)) number (onlyName false (now (line .entry)) from)) r ⌝ }
 {
     let name = only_name(line, from, false, number)?;

@@ -3,7 +3,6 @@ ghost use mathlib.Core.Path.{_≡_};
 ghost use denote.Ref.{now as here};
 ghost use Rattle.names.specs.Names.{texts};
 ghost use Rattle.rules.specs.Ruled.{entryOf};
-
 use evaluation::Entries;
 use names::index_of;
 
@@ -19,6 +18,10 @@ pub impl<'n, 't, 'k> Entries for Switches<'n, 't, 'k> as SwitchEntries {
 
     fn get(&self, name: &[u8]) -> Option<u32> {
         let i = index_of(self.names, name)?;
-        if i < self.numbers.len() { Some(self.numbers[i]) } else { None }
+        if i < self.numbers.len() {
+            Some(self.numbers[i])
+        } else {
+            None
+        }
     }
 }

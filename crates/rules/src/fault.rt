@@ -2,7 +2,6 @@
 ghost use mathlib.Core.Path.{_≡_};
 ghost use Rattle.rules.specs.Faults.{described};
 ghost use Rattle.rules.specs.declared.fault.RuleFault.the-variants.{Expression};
-
 use expressions::fault::ExpressionFault;
 use expressions::fault::ExpressionFaultDebug;
 use expressions::fault::ExpressionFaultEq;
@@ -47,11 +46,36 @@ impl RuleFault {
         match self {
             RuleFault::Store { fault, line } => fault.refusal(line),
             RuleFault::Expression(fault) => fault.refusal(),
-            RuleFault::Misplaced { line } => Refusal { number: DECLARATIONS, layer, line, byte: 0 },
-            RuleFault::DeclaredTwice { line } => Refusal { number: DECLARATIONS, layer, line, byte: 0 },
-            RuleFault::Undeclared { line } => Refusal { number: DECLARATIONS, layer, line, byte: 0 },
-            RuleFault::Names => Refusal { number: DECLARATIONS, layer, line: 0, byte: 0 },
-            RuleFault::NoBegin => Refusal { number: DECLARATIONS, layer, line: 0, byte: 0 },
+            RuleFault::Misplaced { line } => Refusal {
+                number: DECLARATIONS,
+                layer,
+                line,
+                byte: 0,
+            },
+            RuleFault::DeclaredTwice { line } => Refusal {
+                number: DECLARATIONS,
+                layer,
+                line,
+                byte: 0,
+            },
+            RuleFault::Undeclared { line } => Refusal {
+                number: DECLARATIONS,
+                layer,
+                line,
+                byte: 0,
+            },
+            RuleFault::Names => Refusal {
+                number: DECLARATIONS,
+                layer,
+                line: 0,
+                byte: 0,
+            },
+            RuleFault::NoBegin => Refusal {
+                number: DECLARATIONS,
+                layer,
+                line: 0,
+                byte: 0,
+            },
         }
     }
 }

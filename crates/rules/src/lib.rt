@@ -1,7 +1,7 @@
 // Rule lines: the switches of a product family, and the rules that allow some of their configurations.
 // May use every crate below it but no one store. Promises: the names declared, the allowed configurations, and every refusal with its place.
 pub mod declaration;
-pub mod entries;
+mod entries;
 pub mod fault;
-pub mod kind;
+mod kind;
 pub mod reading;

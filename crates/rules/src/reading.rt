@@ -23,7 +23,6 @@ ghost use Rattle.rules.specs.Read.{RulesOutcome};
 ghost use Rattle.evaluation.specs.Meaning.{Denotes};
 ghost use Rattle.std.specs.Vec.{made};
 ghost use mathlib.Core.Bool.{false, _&&_};
-
 use crate::entries::SwitchEntries;
 use crate::entries::Switches;
 use crate::fault::ExpressionInRules;
@@ -49,7 +48,7 @@ use stores::fault::StoreFault;
 
 // What a line leaves: the number of what the rules so far allow, or that the lines are over.
 #[derive(Clone, Copy)]
-pub enum Turn {
+enum Turn {
     Next(u32),
     Last,
 }
@@ -62,7 +61,7 @@ pub struct Rules<'a> {
 }
 
 // A store's answer while line `line` is read.
-pub fn on_line(answer: Result<u32, StoreFault>, line: usize) -> Result<u32, RuleFault>
+fn on_line(answer: Result<u32, StoreFault>, line: usize) -> Result<u32, RuleFault>
     ensures { λ r. ⌜ r ≡ blamedOn line answer ⌝ }
 {
     match answer {
@@ -82,7 +81,7 @@ fn is_declared(line: &[u8], step: Step, names: &[&[u8]]) -> bool
 }
 
 // Is every name of the condition declared?
-pub fn all_declared(condition: &Condition<'_>, names: &[&[u8]]) -> bool
+fn all_declared(condition: &Condition<'_>, names: &[&[u8]]) -> bool
     ensures { λ r. ⌜ r ≡ allKnown (texts (now (names .entry))) (stepsOf (now (condition .entry))) ⌝ }
 {
     let line = condition.line();
@@ -96,13 +95,20 @@ pub fn all_declared(condition: &Condition<'_>, names: &[&[u8]]) -> bool
 
 // What every line is read with: the declared switches, and the numbers that stand for none and all of the allowed configurations.
 #[derive(Clone, Copy)]
-pub struct Reading<'n, 't, 'k> {
+struct Reading<'n, 't, 'k> {
     pub switches: Switches<'n, 't, 'k>,
     pub known: Constants,
 }
 
 // Takes from what is allowed so far, `acc`, what the rule behind offset `from` of the line does not allow.
-pub fn apply_rule<S: Store>(reading: Reading<'_, '_, '_>, line: &[u8], from: usize, number: usize, acc: u32, store: &mut S) -> Result<u32, RuleFault>
+fn apply_rule<S: Store>(
+    reading: Reading<'_, '_, '_>,
+    line: &[u8],
+    from: usize,
+    number: usize,
+    acc: u32,
+    store: &mut S,
+) -> Result<u32, RuleFault>
     requires { ⌜ valid (now store) ⌝ }
     ensures advanced { λ _. ⌜ Advanced valid model rollback (now (store .entry)) (now (store .exit)) ⌝ }
     ensures goes { λ r. ⌜ Goes model rollback need (λ next. rule (namesOf (reading .entry)) (lookupOf (reading .entry)) (reading .entry .known .none) (reading .entry .known .top) acc number next (readIn (now (line .entry)) number (conditionAt false (now (line .entry)) from))) (now (store .entry)) (now (store .exit)) r ⌝ }
@@ -111,7 +117,10 @@ pub fn apply_rule<S: Store>(reading: Reading<'_, '_, '_>, line: &[u8], from: usi
     if !all_declared(&rule, reading.switches.names) {
         return Err(RuleFault::Undeclared { line: number });
     }
-    let set = on_line(work_out(&rule, &reading.switches, reading.known, store), number)?;
+    let set = on_line(
+        work_out(&rule, &reading.switches, reading.known, store),
+        number,
+    )?;
     on_line(store.both(acc, set), number)
 }
 
@@ -126,7 +135,13 @@ fn foreign(line: &[u8], number: usize) -> RuleFault
 }
 
 // Reads one line, with `acc` what is allowed so far.
-pub fn read_line<S: Store>(reading: Reading<'_, '_, '_>, line: &[u8], number: usize, acc: u32, store: &mut S) -> Result<Turn, RuleFault>
+fn read_line<S: Store>(
+    reading: Reading<'_, '_, '_>,
+    line: &[u8],
+    number: usize,
+    acc: u32,
+    store: &mut S,
+) -> Result<Turn, RuleFault>
     requires { ⌜ valid (now store) ⌝ }
     ensures advanced { λ _. ⌜ Advanced valid model rollback (now (store .entry)) (now (store .exit)) ⌝ }
     ensures turned { λ r. ⌜ ((behind : List ℕ) → Turned model rollback need (byKind (kindOf (now (line .entry))) (namesOf (reading .entry)) (lookupOf (reading .entry)) (reading .entry .known .none) (reading .entry .known .top) acc number (lined (now (line .entry)) behind)) acc behind (now (store .entry)) (now (store .exit)) r) ⌝ }
@@ -150,7 +165,12 @@ pub fn read_line<S: Store>(reading: Reading<'_, '_, '_>, line: &[u8], number: us
 }
 
 // Reads lines up to `begin`; `lines` stand before the first.
-fn read_lines<'a, S: Store>(reading: Reading<'_, '_, '_>, text: &'a [u8], lines: usize, store: &mut S) -> Result<Rules<'a>, RuleFault>
+fn read_lines<'a, S: Store>(
+    reading: Reading<'_, '_, '_>,
+    text: &'a [u8],
+    lines: usize,
+    store: &mut S,
+) -> Result<Rules<'a>, RuleFault>
     requires { ⌜ valid (now store) ⌝ }
     ensures advanced { λ _. ⌜ Advanced valid model rollback (now (store .entry)) (now (store .exit)) ⌝ }
     ensures runs { λ r. ⌜ Runs model rollback need (ruling (namesOf (reading .entry)) (lookupOf (reading .entry)) (reading .entry .known .none) (reading .entry .known .top) (reading .entry .known .top) lines (linesOf (now (text .entry)))) (now (store .entry)) (now (store .exit)) (seen answerOf r) ⌝ }
@@ -163,7 +183,10 @@ fn read_lines<'a, S: Store>(reading: Reading<'_, '_, '_>, text: &'a [u8], lines:
         number = number.saturating_add(1);
         match read_line(reading, line, number, allowed, store)? {
             Turn::Next(set) => allowed = set,
-            Turn::Last => return Ok(Rules { allowed, rest: behind }),
+            Turn::Last => return Ok(Rules {
+                allowed,
+                rest: behind,
+            }),
         }
         rest = behind;
     }
@@ -184,14 +207,26 @@ fn switch_numbers<S: Store>(store: &mut S) -> Result<[u32; MAX_SWITCHES], RuleFa
 }
 
 // The reading itself, which may be refused with numbers still held.
-fn gather<'a, S: Store>(names: &[&[u8]], text: &'a [u8], lines: usize, known: Constants, store: &mut S) -> Result<Rules<'a>, RuleFault>
+fn gather<'a, S: Store>(
+    names: &[&[u8]],
+    text: &'a [u8],
+    lines: usize,
+    known: Constants,
+    store: &mut S,
+) -> Result<Rules<'a>, RuleFault>
     requires valid { ⌜ valid (now store) ⌝ }
     ensures advanced { λ _. ⌜ Advanced valid model rollback (now (store .entry)) (now (store .exit)) ⌝ }
     ensures runs { λ r. ⌜ Runs model rollback need (ruled (texts (now (names .entry))) (model (now (store .entry)) .n) (known .none) (known .top) lines (now (text .entry))) (now (store .entry)) (now (store .exit)) (seen answerOf r) ⌝ }
 {
     let count = store.switches() as usize;
     let numbers = switch_numbers(store)?;
-    let reading = Reading { switches: Switches { names, numbers: &numbers[0..count] }, known };
+    let reading = Reading {
+        switches: Switches {
+            names,
+            numbers: &numbers[0..count],
+        },
+        known,
+    };
     read_lines(reading, text, lines, store)
 }
 
@@ -204,7 +239,12 @@ fn names_fit(names: &[&[u8]], n: u32) -> bool
 
 // Reads the lines behind the `switch` lines, of which `lines` stand before `text`. The names are the switches', in order.
 // Refused, the store is as it was; else it holds the answer's number.
-pub fn read_rules<'a, S: Store>(names: &[&[u8]], text: &'a [u8], lines: usize, store: &mut S) -> Result<Rules<'a>, RuleFault>
+pub fn read_rules<'a, S: Store>(
+    names: &[&[u8]],
+    text: &'a [u8],
+    lines: usize,
+    store: &mut S,
+) -> Result<Rules<'a>, RuleFault>
     requires { ⌜ valid (now store) ⌝ }
     ensures advanced { λ _. ⌜ Advanced valid model rollback (now (store .entry)) (now (store .exit)) ⌝ }
     ensures outcome { λ r. ⌜ RulesOutcome model rollback need (texts (now (names .entry))) lines (now (text .entry)) (now (store .entry)) (now (store .exit)) r ⌝ }
@@ -213,7 +253,10 @@ pub fn read_rules<'a, S: Store>(names: &[&[u8]], text: &'a [u8], lines: usize, s
     if !names_fit(names, store.switches()) {
         return Err(RuleFault::Names);
     }
-    let known = Constants { none: store.none(), top: store.top() };
+    let known = Constants {
+        none: store.none(),
+        top: store.top(),
+    };
     let mark = store.mark();
     match gather(names, text, lines, known, store) {
         Ok(rules) => {

@@ -30,15 +30,15 @@ module _ {S : Type 0} (model : S → Model) (rollback : S → ℕ → S) (need :
   never-on s s₁ x a v = inr (x, s₁, a, (true, a .within, v, (refl, refl)))
 
   pub no-room : (s s₁ s₂ : S) (x : ℕ) (f : StoreFault) (r : Result Standing StoreFault) → Accepted model rollback s s₁ (need s (switch i)) (switch i) x → (Empty (setAt (model s₁) x) → ⊥)
-    → Refused model s₁ s₂ (need s₁ (less top x)) (less top x) f → r ≡ Err f → Runs model rollback need (asking top i) s s₂ r
+      → Refused model s₁ s₂ (need s₁ (less top x)) (less top x) f → r ≡ Err f → Runs model rollback need (asking top i) s s₂ r
   no-room s s₁ s₂ x f r a v h e = inr (x, s₁, a, (false, a .within, v, inl (f, record { due = h .due; same = refl }, e, h .same)))
 
   pub always-on : (s s₁ s₂ : S) (x y : ℕ) → Accepted model rollback s s₁ (need s (switch i)) (switch i) x → (Empty (setAt (model s₁) x) → ⊥)
-    → Accepted model rollback s₁ s₂ (need s₁ (less top x)) (less top x) y → Empty (setAt (model s₂) y) → Runs model rollback need (asking top i) s s₂ (Ok On)
+      → Accepted model rollback s₁ s₂ (need s₁ (less top x)) (less top x) y → Empty (setAt (model s₂) y) → Runs model rollback need (asking top i) s s₂ (Ok On)
   always-on s s₁ s₂ x y a v b w = inr (x, s₁, a, (false, a .within, v, inr (y, s₂, b, (true, b .within, w, (refl, refl)))))
 
   pub either-way : (s s₁ s₂ : S) (x y : ℕ) → Accepted model rollback s s₁ (need s (switch i)) (switch i) x → (Empty (setAt (model s₁) x) → ⊥)
-    → Accepted model rollback s₁ s₂ (need s₁ (less top x)) (less top x) y → (Empty (setAt (model s₂) y) → ⊥) → Runs model rollback need (asking top i) s s₂ (Ok Free)
+      → Accepted model rollback s₁ s₂ (need s₁ (less top x)) (less top x) y → (Empty (setAt (model s₂) y) → ⊥) → Runs model rollback need (asking top i) s s₂ (Ok Free)
   either-way s s₁ s₂ x y a v b w = inr (x, s₁, a, (false, a .within, v, inr (y, s₂, b, (false, b .within, w, (refl, refl)))))
 
 clash : true ≡ false → ⊥
@@ -83,18 +83,18 @@ module _ {S : Type 0} (model : S → Model) (rollback : S → ℕ → S) (need :
 
   module _ (ok : Consistent (model s)) (below : top < length (model s .held)) (is : setAt (model s) top ≡ model s .allowed) where
     second : (s₁ s₂ : S) (x : ℕ) (v : Standing) → Accepted model rollback s s₁ (need s (switch i)) (switch i) x → (Empty (setAt (model s₁) x) → ⊥)
-      → Runs model rollback need (ask (less top x) (λ f. f) (λ y. test y (λ all. cond all (done On) (done Free)))) s₁ s₂ (Ok v) → Stands (model s .allowed) i v
+        → Runs model rollback need (ask (less top x) (λ f. f) (λ y. test y (λ all. cond all (done On) (done Free)))) s₁ s₂ (Ok v) → Stands (model s .allowed) i v
     second s₁ s₂ x v a some h = ⊎-elim
-      (λ f. absurd (ok-not-err {F = StoreFault} (f .2)))
-      (λ q.
+        (λ f. absurd (ok-not-err {F = StoreFault} (f .2)))
+        (λ q.
         let up : setAt (model s₁) top ≡ model s .allowed = set-before (a .grown .appended) top below ∙ is in
         let set : setAt (model (q .1)) (q .0) ≡ (λ k. model s .allowed k && not (model s .allowed k && on i k)) =
-          q .2 .set ∙ (λ j. up j ∖ a .set j) in
+        q .2 .set ∙ (λ j. up j ∖ a .set j) in
         by-test (q .3 .0) (setAt (model (q .1)) (q .0)) set (q .3 .2) (q .1) (q .3 .3))
-      h
+        h
       where
         by-test : (b : Bool) (y : Set) → y ≡ (λ k. model s .allowed k && not (model s .allowed k && on i k)) → TellsEmpty y b → (s₃ : S)
-          → Runs {F = StoreFault} model rollback need (cond b (done On) (done Free)) s₃ s₂ (Ok v) → Stands (model s .allowed) i v
+            → Runs {F = StoreFault} model rollback need (cond b (done On) (done Free)) s₃ s₂ (Ok v) → Stands (model s .allowed) i v
         by-test true y e t s₃ r = given v On (r .0) (λ k al. on-by (model s .allowed k) (on i k) ((λ j. sym e j k) ∙ t k) al)
         by-test false y e t s₃ r =
             let w = one-of (setAt (model s₁) x) (2 ^ (model s .n)) (λ k m. ok .within k (and-both (model s .allowed k) (on i k) ((λ j. sym (a .set) j k) ∙ m) .0)) some in
@@ -105,12 +105,12 @@ module _ {S : Type 0} (model : S → Model) (rollback : S → ℕ → S) (need :
 
     stands-ok : (s₂ : S) (v : Standing) → Runs model rollback need (asking top i) s s₂ (Ok v) → Stands (model s .allowed) i v
     stands-ok s₂ v h = ⊎-elim
-      (λ f. absurd (ok-not-err {F = StoreFault} (f .2)))
-      (λ q. by-test (q .1) (q .0) (q .2) (q .3 .0) (q .3 .2) (q .3 .3))
-      h
+        (λ f. absurd (ok-not-err {F = StoreFault} (f .2)))
+        (λ q. by-test (q .1) (q .0) (q .2) (q .3 .0) (q .3 .2) (q .3 .3))
+        h
       where
         by-test : (s₁ : S) (x : ℕ) → Accepted model rollback s s₁ (need s (switch i)) (switch i) x → (b : Bool) → TellsEmpty (setAt (model s₁) x) b
-          → Runs model rollback need (cond b (done Off) (ask (less top x) (λ f. f) (λ y. test y (λ all. cond all (done On) (done Free))))) s₁ s₂ (Ok v) → Stands (model s .allowed) i v
+            → Runs model rollback need (cond b (done Off) (ask (less top x) (λ f. f) (λ y. test y (λ all. cond all (done On) (done Free))))) s₁ s₂ (Ok v) → Stands (model s .allowed) i v
         by-test s₁ x a true t r = given v Off (r .0) (λ k al. off-by (model s .allowed k) (on i k) ((λ j. sym (a .set) j k) ∙ t k) al)
         by-test s₁ x a false t r = second s₁ s₂ x v a t r
 

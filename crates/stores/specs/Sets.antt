@@ -16,7 +16,6 @@ use Rattle.std.specs.declared.option.Option.the-variants.{Some, None}
 infixl 70 _∩_
 infixl 65 _∪_
 infixl 70 _∖_
-
 abbrev pub Set : Type 0
 Set = ℕ → Bool
 

@@ -1,7 +1,6 @@
 // Why a store refuses, by rising number.
 ghost use mathlib.Core.Path.{_≡_};
 ghost use Rattle.stores.specs.Faults.{described};
-
 use faults::Layer;
 use faults::Refusal;
 
@@ -26,14 +25,19 @@ impl StoreFault {
     pub fn refusal(self, line: usize) -> Refusal
         ensures { λ r. ⌜ r ≡ described self line ⌝ }
     {
-        let layer = Layer::Store;
-        match self {
-            StoreFault::NoSwitch => Refusal { number: 1, layer, line: 0, byte: 0 },
-            StoreFault::NoNumber => Refusal { number: 2, layer, line: 0, byte: 0 },
-            StoreFault::Full => Refusal { number: 3, layer, line, byte: 0 },
-            StoreFault::NoConfiguration => Refusal { number: 4, layer, line: 0, byte: 0 },
-            StoreFault::TooSmall => Refusal { number: 6, layer, line: 0, byte: 0 },
-            StoreFault::TooManySwitches => Refusal { number: 7, layer, line: 0, byte: 0 },
+        let (number, line) = match self {
+            StoreFault::NoSwitch => (1, 0),
+            StoreFault::NoNumber => (2, 0),
+            StoreFault::Full => (3, line),
+            StoreFault::NoConfiguration => (4, 0),
+            StoreFault::TooSmall => (6, 0),
+            StoreFault::TooManySwitches => (7, 0),
+        };
+        Refusal {
+            number,
+            layer: Layer::Store,
+            line,
+            byte: 0,
         }
     }
 }

@@ -58,7 +58,7 @@ returns-in-Not g c =
     record {
       advanced = advanced-op (s .rollbackLaws) (s .need) (less (k .top) (a .result)) (c .less .result) (c .pre) (c .less .ensures .valid) (c .less .ensures .outcome);
       runs = runs-at (s .model) (s .rollback) (s .need) (c .args .line .now) (g .E·Entries .lookup (c .args .entries .now)) (k .none) (k .top) st (c .args .store .now) (c .less .last .self) (c .less .result) (c .in-Not .is)
-        (runs-not (s .model) (s .rollback) (s .need) (k .top) (k .none) (a .result) st (c .args .store .now) (c .less .last .self) (c .less .result) (a .ensures .value) (c .less .ensures .outcome));
+          (runs-not (s .model) (s .rollback) (s .need) (k .top) (k .none) (a .result) st (c .args .store .now) (c .less .last .self) (c .less .result) (a .ensures .value) (c .less .ensures .outcome));
       popped = popped-at (c .args .line .now) st _ (c .in-Not .is) (a .ensures .popped);
       len = a .ensures .len;
     }
@@ -74,7 +74,7 @@ returns-in-And g c =
     record {
       advanced = advanced-op (s .rollbackLaws) (s .need) (both (a .result) (b .result)) (c .both .result) (c .pre) (c .both .ensures .valid) (c .both .ensures .outcome);
       runs = runs-at (s .model) (s .rollback) (s .need) (c .args .line .now) (g .E·Entries .lookup (c .args .entries .now)) (k .none) (k .top) st (c .args .store .now) (c .both .last .self) (c .both .result) (c .in-And .is)
-        (runs-two (s .model) (s .rollback) (s .need) both (k .none) (a .result) (b .result) st st₁ (c .args .store .now) (c .both .last .self) (c .both .result) (b .ensures .value) (b .ensures .popped) (a .ensures .value) (c .both .ensures .outcome));
+          (runs-two (s .model) (s .rollback) (s .need) both (k .none) (a .result) (b .result) st st₁ (c .args .store .now) (c .both .last .self) (c .both .result) (b .ensures .value) (b .ensures .popped) (a .ensures .value) (c .both .ensures .outcome));
       popped = popped-at (c .args .line .now) st _ (c .in-And .is) (a .ensures .popped ∙ ap rest (b .ensures .popped));
       len = omega (arith, a .ensures .len, b .ensures .len);
     }
@@ -90,7 +90,7 @@ returns-in-Or g c =
     record {
       advanced = advanced-op (s .rollbackLaws) (s .need) (either (a .result) (b .result)) (c .either .result) (c .pre) (c .either .ensures .valid) (c .either .ensures .outcome);
       runs = runs-at (s .model) (s .rollback) (s .need) (c .args .line .now) (g .E·Entries .lookup (c .args .entries .now)) (k .none) (k .top) st (c .args .store .now) (c .either .last .self) (c .either .result) (c .in-Or .is)
-        (runs-two (s .model) (s .rollback) (s .need) either (k .none) (a .result) (b .result) st st₁ (c .args .store .now) (c .either .last .self) (c .either .result) (b .ensures .value) (b .ensures .popped) (a .ensures .value) (c .either .ensures .outcome));
+          (runs-two (s .model) (s .rollback) (s .need) either (k .none) (a .result) (b .result) st st₁ (c .args .store .now) (c .either .last .self) (c .either .result) (b .ensures .value) (b .ensures .popped) (a .ensures .value) (c .either .ensures .outcome));
       popped = popped-at (c .args .line .now) st _ (c .in-Or .is) (a .ensures .popped ∙ ap rest (b .ensures .popped));
       len = omega (arith, a .ensures .len, b .ensures .len);
     }

@@ -19,7 +19,7 @@ returns g c =
     let entry = c .args .store .now in
     let exit = c .work-steps .last .store in
     let is : items (c .line .result .now) (c .steps .result .now) ≡ stepsOf (c .args .condition .now) =
-      ap₂ (λ (l : List ℕ) (ss : List Step). items l ss) (c .line .ensures) (c .steps .ensures .value) in
+    ap₂ (λ (l : List ℕ) (ss : List Step). items l ss) (c .line .ensures) (c .steps .ensures .value) in
     let runs = λ (e : Expr) (q : stepsOf (c .args .condition .now) ≡ postfix e). machine-runs (s .model) (s .rollback) (s .need) look (k .none) (k .top) (items (c .line .result .now) (c .steps .result .now)) e entry exit (c .work-steps .result) (is ∙ q) (c .work-steps .ensures .runs) in
     record {
       advanced = c .work-steps .ensures .advanced;

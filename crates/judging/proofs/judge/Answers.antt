@@ -24,9 +24,12 @@ returns c =
     let count = c .min-count .result in
     let few : count ≤ 10 = few-switches (length (c .args .words .now)) count (made .due) in
     let many : count ≡ length (texts items) = omega (arith, few, c .min-count .ensures, c .len .ensures, d .names .ok .0, length-texts items) in
-    let model = made .model in
-    (declaredOf d, c .in-Continue-names .ensures tt, refl,
-     judged-by _ _ _ _ (c .in-Continue-standings .lowest) (vec-items (c .in-Continue-standings .standings))
-       (ap₂ (λ (A : Set) (ns : List (List ℕ)). allowedBy A ns (linesOf (d .rest .now))) (ap (λ (m : Model). m .allowed) model ∙ ap everything many) (ap texts (c .as-slice .ensures .value)))
-       (ap (λ (m : Model). m .n) model ∙ many)
-       (c .in-Continue-standings .ensures tt))
+    let model = made .model in (
+      declaredOf d,
+      c .in-Continue-names .ensures tt,
+      refl,
+      judged-by _ _ _ _ (c .in-Continue-standings .lowest) (vec-items (c .in-Continue-standings .standings))
+          (ap₂ (λ (A : Set) (ns : List (List ℕ)). allowedBy A ns (linesOf (d .rest .now))) (ap (λ (m : Model). m .allowed) model ∙ ap everything many) (ap texts (c .as-slice .ensures .value)))
+          (ap (λ (m : Model). m .n) model ∙ many)
+          (c .in-Continue-standings .ensures tt),
+    )

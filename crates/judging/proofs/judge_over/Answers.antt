@@ -26,7 +26,7 @@ returns-in-Some g c =
     let L′ : Set = layerModel (s .model) seen .allowed in
     let sat : Set = λ k. satisfies (rulesIn (linesOf (a .text .now))) (defines ns k) in
     judged (allowedBy (s .model (a .store) .allowed) ns (linesOf (a .text .now))) L L′ (setAt (layerModel (s .model) seen) (c .top .result)) (s .model (a .store) .n) (layerModel (s .model) layer .n) (c .in-Some .lowest) (vec-items (c .in-Continue-standings .standings)) (c .in-Continue-lowest .field-0)
-      (layer-allows (s .model (a .store) .allowed) (m₁ .allowed) (setAt m₁ (c .in-Continue-rules .rules .allowed)) L sat (moved .allowed) (read .allowed .is) (mk .allowed))
-      (mk .n ∙ moved .n)
-      (ap (λ (l : _). layerModel (s .model) l .allowed) (c .in-Continue-standings .ensures tt .same))
-      (c .top .ensures .1) (c .in-Continue-standings .ensures tt .stand) (c .in-Continue-lowest .ensures tt .1) (c .in-Some .is)
+    (layer-allows (s .model (a .store) .allowed) (m₁ .allowed) (setAt m₁ (c .in-Continue-rules .rules .allowed)) L sat (moved .allowed) (read .allowed .is) (mk .allowed))
+    (mk .n ∙ moved .n)
+    (ap (λ (l : _). layerModel (s .model) l .allowed) (c .in-Continue-standings .ensures tt .same))
+    (c .top .ensures .1) (c .in-Continue-standings .ensures tt .stand) (c .in-Continue-lowest .ensures tt .1) (c .in-Some .is)

@@ -26,10 +26,11 @@ loop-i-again g c =
     let s = g .S·Store in
     let l = c .loop-i in
     let e = c .in-Continue-standing .ensures tt in
-    let A = s .model (c .args .store .now) .allowed in
-    (e .same ∙ l .inv .0,
-     stand-more A (l .i) (vec-items (l .standings)) (vec-items (c .push .last .self)) (c .in-Continue-standing .field-0) (c .in-Continue-push .ensures tt .items) (l .inv .1)
-       (subst (λ (z : _). Stands (s .model z .allowed) (l .i) (c .in-Continue-standing .field-0)) (l .inv .0) (e .stands)))
+    let A = s .model (c .args .store .now) .allowed in (
+      e .same ∙ l .inv .0,
+      stand-more A (l .i) (vec-items (l .standings)) (vec-items (c .push .last .self)) (c .in-Continue-standing .field-0) (c .in-Continue-push .ensures tt .items) (l .inv .1)
+          (subst (λ (z : _). Stands (s .model z .allowed) (l .i) (c .in-Continue-standing .field-0)) (l .inv .0) (e .stands)),
+    )
 
 pub returns : need.returns
 returns g c =

@@ -26,7 +26,7 @@ returns-then-is-none g c =
     record {
       advanced = advanced-op (s .rollbackLaws) (s .need) (switch (c .args .i)) (Ok x) (c .pre) (e .valid) (e .outcome);
       runs = never-on (s .model) (s .rollback) (s .need) (c .args .top) (c .args .i) (c .args .store .now) (c .switch .last .self) x (e .outcome)
-        (found-none (setAt (s .model (c .switch .last .self)) x) (c .in-Continue-find .field-0) (c .if-is-none .ensures tt) (c .in-Continue-find .ensures tt .1));
+          (found-none (setAt (s .model (c .switch .last .self)) x) (c .in-Continue-find .field-0) (c .if-is-none .ensures tt) (c .in-Continue-find .ensures tt .1));
     }
 
 pub returns-in-Break-without : need.returns-in-Break-without
@@ -38,9 +38,9 @@ returns-in-Break-without g c =
     let p = err-from-errBy (c .from-residual-in-Break-without .result) (c .from-residual-in-Break-without .ensures .1) in
     record {
       advanced = advanced-trans (s .rollbackLaws) (advanced-op (s .rollbackLaws) (s .need) (switch (c .args .i)) (Ok x) (c .pre) (e .valid) (e .outcome))
-        (advanced-op (s .rollbackLaws) (s .need) (less (c .args .top) x) (Err (c .in-Break-without .field-0 .0)) (e .valid) (d .valid) (d .outcome));
+          (advanced-op (s .rollbackLaws) (s .need) (less (c .args .top) x) (Err (c .in-Break-without .field-0 .0)) (e .valid) (d .valid) (d .outcome));
       runs = no-room (s .model) (s .rollback) (s .need) (c .args .top) (c .args .i) (c .args .store .now) (c .switch .last .self) (c .less .last .self) x _ (c .from-residual-in-Break-without .result) (e .outcome)
-        (found-some (setAt (s .model (c .switch .last .self)) x) (c .in-Continue-find .field-0) (c .if-is-none .ensures tt) (c .in-Continue-find .ensures tt .1)) (d .outcome) (p .1 ∙ ap Err (p .2));
+          (found-some (setAt (s .model (c .switch .last .self)) x) (c .in-Continue-find .field-0) (c .if-is-none .ensures tt) (c .in-Continue-find .ensures tt .1)) (d .outcome) (p .1 ∙ ap Err (p .2));
     }
 
 pub returns-then-is-none-2 : need.returns-then-is-none-2
@@ -52,10 +52,10 @@ returns-then-is-none-2 g c =
     let y = c .in-Continue-without .without in
     record {
       advanced = advanced-trans (s .rollbackLaws) (advanced-op (s .rollbackLaws) (s .need) (switch (c .args .i)) (Ok x) (c .pre) (e .valid) (e .outcome))
-        (advanced-op (s .rollbackLaws) (s .need) (less (c .args .top) x) (Ok y) (e .valid) (d .valid) (d .outcome));
+          (advanced-op (s .rollbackLaws) (s .need) (less (c .args .top) x) (Ok y) (e .valid) (d .valid) (d .outcome));
       runs = always-on (s .model) (s .rollback) (s .need) (c .args .top) (c .args .i) (c .args .store .now) (c .switch .last .self) (c .less .last .self) x y (e .outcome)
-        (found-some (setAt (s .model (c .switch .last .self)) x) (c .in-Continue-find .field-0) (c .if-is-none .ensures tt) (c .in-Continue-find .ensures tt .1)) (d .outcome)
-        (found-none (setAt (s .model (c .less .last .self)) y) (c .in-Continue-find-2 .field-0) (c .if-is-none-2 .ensures tt) (c .in-Continue-find-2 .ensures tt .1));
+          (found-some (setAt (s .model (c .switch .last .self)) x) (c .in-Continue-find .field-0) (c .if-is-none .ensures tt) (c .in-Continue-find .ensures tt .1)) (d .outcome)
+          (found-none (setAt (s .model (c .less .last .self)) y) (c .in-Continue-find-2 .field-0) (c .if-is-none-2 .ensures tt) (c .in-Continue-find-2 .ensures tt .1));
     }
 
 pub returns : need.returns
@@ -67,8 +67,8 @@ returns g c =
     let y = c .in-Continue-without .without in
     record {
       advanced = advanced-trans (s .rollbackLaws) (advanced-op (s .rollbackLaws) (s .need) (switch (c .args .i)) (Ok x) (c .pre) (e .valid) (e .outcome))
-        (advanced-op (s .rollbackLaws) (s .need) (less (c .args .top) x) (Ok y) (e .valid) (d .valid) (d .outcome));
+          (advanced-op (s .rollbackLaws) (s .need) (less (c .args .top) x) (Ok y) (e .valid) (d .valid) (d .outcome));
       runs = either-way (s .model) (s .rollback) (s .need) (c .args .top) (c .args .i) (c .args .store .now) (c .switch .last .self) (c .less .last .self) x y (e .outcome)
-        (found-some (setAt (s .model (c .switch .last .self)) x) (c .in-Continue-find .field-0) (c .if-is-none .ensures tt) (c .in-Continue-find .ensures tt .1)) (d .outcome)
-        (found-some (setAt (s .model (c .less .last .self)) y) (c .in-Continue-find-2 .field-0) (c .if-is-none-2 .ensures tt) (c .in-Continue-find-2 .ensures tt .1));
+          (found-some (setAt (s .model (c .switch .last .self)) x) (c .in-Continue-find .field-0) (c .if-is-none .ensures tt) (c .in-Continue-find .ensures tt .1)) (d .outcome)
+          (found-some (setAt (s .model (c .less .last .self)) y) (c .in-Continue-find-2 .field-0) (c .if-is-none-2 .ensures tt) (c .in-Continue-find-2 .ensures tt .1));
     }

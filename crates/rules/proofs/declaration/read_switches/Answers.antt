@@ -24,7 +24,7 @@ loop-line-again c =
     let names = vec-items (l .names) in
     let x = c .in-Continue-name .name in
     sym (switch-turn (texts names) (l .lines) (c .saturating-add-number .result) (l .rest .now) (f .result .0 .now) (f .result .1 .now) (f .ensures .first (not-empty (length (l .rest .now)) (c .loop-line-test .ensures tt))) (f .ensures .content) (f .ensures .behind) (c .saturating-add-number .ensures)
-      (c .in-Switch .from) (x .now) (texts (c .as-slice .result .now)) (texts (vec-items (c .push .last .self))) (c .in-Switch .ensures tt) (ap texts (c .as-slice .ensures .value)) (c .in-Continue-name .ensures tt) (texts-more names (vec-items (c .push .last .self)) x (c .in-Continue-push .ensures tt .items)))
+    (c .in-Switch .from) (x .now) (texts (c .as-slice .result .now)) (texts (vec-items (c .push .last .self))) (c .in-Switch .ensures tt) (ap texts (c .as-slice .ensures .value)) (c .in-Continue-name .ensures tt) (texts-more names (vec-items (c .push .last .self)) x (c .in-Continue-push .ensures tt .items)))
     ∙ l .inv
 
 pub loop-line-again-in-Blank : need.loop-line-again-in-Blank

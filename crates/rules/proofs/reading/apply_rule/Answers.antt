@@ -24,7 +24,7 @@ returns-in-Break-rule g c =
     record {
       advanced = advanced-none (s .rollbackLaws) (c .pre);
       goes = unread (s .model) (s .rollback) (s .need) (names (a .reading)) (lookup (a .reading)) (a .reading .known .none) (a .reading .known .top) (a .acc) (a .number) (readIn (a .line .now) (a .number) (conditionAt false (a .line .now) (a .from)))
-        (c .in-Break-rule .field-0 .0) (a .store .now) (c .from-residual .result) (condition-read (a .line .now) (a .number) (conditionAt false (a .line .now) (a .from)) (Err (c .in-Break-rule .field-0 .0)) (c .in-Break-rule .ensures tt .long) (c .in-Break-rule .ensures tt .reads)) (p .1 ∙ ap Err (p .2));
+          (c .in-Break-rule .field-0 .0) (a .store .now) (c .from-residual .result) (condition-read (a .line .now) (a .number) (conditionAt false (a .line .now) (a .from)) (Err (c .in-Break-rule .field-0 .0)) (c .in-Break-rule .ensures tt .long) (c .in-Break-rule .ensures tt .reads)) (p .1 ∙ ap Err (p .2));
     }
 
 pub returns-then-not-all-declared : need.returns-then-not-all-declared
@@ -37,7 +37,7 @@ returns-then-not-all-declared g c =
     record {
       advanced = advanced-none (s .rollbackLaws) (c .pre);
       goes = undeclared (s .model) (s .rollback) (s .need) (names (a .reading)) (lookup (a .reading)) (a .reading .known .none) (a .reading .known .top) (a .acc) (a .number) (readIn (a .line .now) (a .number) (conditionAt false (a .line .now) (a .from)))
-        (e .1 .0) (a .store .now) (e .1 .1) (known-read (names (a .reading)) k (a .line .now) (e .1 .0) false (e .0) (e .1 .2) (c .if-not-all-declared .ensures tt));
+          (e .1 .0) (a .store .now) (e .1 .1) (known-read (names (a .reading)) k (a .line .now) (e .1 .0) false (e .0) (e .1 .2) (c .if-not-all-declared .ensures tt));
     }
 
 pub returns-in-Break-set : need.returns-in-Break-set
@@ -51,9 +51,9 @@ returns-in-Break-set g c =
     record {
       advanced = c .work-out .ensures .advanced;
       goes = unworked (s .model) (s .rollback) (s .need) (names (a .reading)) (lookup (a .reading)) (a .reading .known .none) (a .reading .known .top) (a .acc) (a .number) (readIn (a .line .now) (a .number) (conditionAt false (a .line .now) (a .from)))
-        (e .1 .0) (a .store .now) (c .work-out .last .store) (c .work-out .result) (c .in-Break-set .field-0 .0) (c .from-residual-in-Break-set .result) (e .1 .1)
-        (known-read (names (a .reading)) k (a .line .now) (e .1 .0) true (e .0) (e .1 .2) (c .if-not-all-declared .ensures tt))
-        (c .work-out .ensures .runs (e .1 .0) (steps-read k (a .line .now) (e .1 .0) (e .0) (e .1 .2))) (c .in-Break-set .ensures tt) (p .1 ∙ ap Err (p .2));
+          (e .1 .0) (a .store .now) (c .work-out .last .store) (c .work-out .result) (c .in-Break-set .field-0 .0) (c .from-residual-in-Break-set .result) (e .1 .1)
+          (known-read (names (a .reading)) k (a .line .now) (e .1 .0) true (e .0) (e .1 .2) (c .if-not-all-declared .ensures tt))
+          (c .work-out .ensures .runs (e .1 .0) (steps-read k (a .line .now) (e .1 .0) (e .0) (e .1 .2))) (c .in-Break-set .ensures tt) (p .1 ∙ ap Err (p .2));
     }
 
 pub returns : need.returns
@@ -67,7 +67,7 @@ returns g c =
     record {
       advanced = advanced-trans (s .rollbackLaws) (c .work-out .ensures .advanced) (advanced-op (s .rollbackLaws) (s .need) (both (a .acc) set) (c .both .result) (c .work-out .ensures .advanced .fine) (c .both .ensures .valid) (c .both .ensures .outcome));
       goes = met (s .model) (s .rollback) (s .need) (names (a .reading)) (lookup (a .reading)) (a .reading .known .none) (a .reading .known .top) (a .acc) (a .number) (readIn (a .line .now) (a .number) (conditionAt false (a .line .now) (a .from)))
-        (e .1 .0) (a .store .now) (c .work-out .last .store) (c .both .last .self) (c .work-out .result) set (c .both .result) (c .on-line-2 .result) (e .1 .1)
-        (known-read (names (a .reading)) k (a .line .now) (e .1 .0) true (e .0) (e .1 .2) (c .if-not-all-declared .ensures tt))
-        (c .work-out .ensures .runs (e .1 .0) (steps-read k (a .line .now) (e .1 .0) (e .0) (e .1 .2))) (c .in-Continue-set .ensures tt) (c .both .ensures .outcome) (c .on-line-2 .ensures);
+          (e .1 .0) (a .store .now) (c .work-out .last .store) (c .both .last .self) (c .work-out .result) set (c .both .result) (c .on-line-2 .result) (e .1 .1)
+          (known-read (names (a .reading)) k (a .line .now) (e .1 .0) true (e .0) (e .1 .2) (c .if-not-all-declared .ensures tt))
+          (c .work-out .ensures .runs (e .1 .0) (steps-read k (a .line .now) (e .1 .0) (e .0) (e .1 .2))) (c .in-Continue-set .ensures tt) (c .both .ensures .outcome) (c .on-line-2 .ensures);
     }

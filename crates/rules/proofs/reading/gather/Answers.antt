@@ -30,7 +30,7 @@ returns-in-Break-numbers g c =
     record {
       advanced = e .advanced;
       runs = subst (λ (r : Result Rules RuleFault). Runs (s .model) (s .rollback) (s .need) (ruled ns n (a .known .none) (a .known .top) (a .lines) (a .text .now)) (a .store .now) (c .switch-numbers .last .store) (seen answerOf r)) (sym (p .1 ∙ ap Err (p .2)))
-        (switched-refused (s .model) (s .rollback) (s .need) n (λ (ms : List ℕ). ruling ns (entryOf ns ms) (a .known .none) (a .known .top) (a .known .top) (a .lines) (linesOf (a .text .now))) (a .store .now) (c .switch-numbers .last .store) (described (c .in-Break-numbers .field-0 .0)) (e .runs));
+          (switched-refused (s .model) (s .rollback) (s .need) n (λ (ms : List ℕ). ruling ns (entryOf ns ms) (a .known .none) (a .known .top) (a .known .top) (a .lines) (linesOf (a .text .now))) (a .store .now) (c .switch-numbers .last .store) (described (c .in-Break-numbers .field-0 .0)) (e .runs));
     }
 
 pub returns : need.returns
@@ -44,5 +44,5 @@ returns g c =
     record {
       advanced = advanced-trans (s .rollbackLaws) (e .advanced) (c .read-lines .ensures .advanced);
       runs = switched (s .model) (s .rollback) (s .need) n (λ (ms : List ℕ). ruling ns (entryOf ns ms) (a .known .none) (a .known .top) (a .known .top) (a .lines) (linesOf (a .text .now))) (take n numbers) _ (a .store .now) (c .switch-numbers .last .store) (c .read-lines .last .store) (seen answerOf (c .read-lines .result))
-        (ap (λ (j : ℕ). take j numbers) (let z : c .switches-count .result - 0 ≡ n = omega (arith, c .switches-count .ensures) in z)) (e .runs) (c .read-lines .ensures .runs);
+          (ap (λ (j : ℕ). take j numbers) (let z : c .switches-count .result - 0 ≡ n = omega (arith, c .switches-count .ensures) in z)) (e .runs) (c .read-lines .ensures .runs);
     }

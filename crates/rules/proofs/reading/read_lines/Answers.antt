@@ -35,11 +35,12 @@ loop-rest-again g c =
     let l = c .loop-rest in
     let f = c .first-line in
     let some = not-empty (length (l .rest .now)) (c .loop-rest-test .ensures tt) in
-    let e = c .in-Continue-set .ensures tt in
-    (advanced-trans (s .rollbackLaws) (l .inv .0) (e .advanced),
-     goes-more (s .model) (s .rollback) (s .need) (names (a .reading)) (lookup (a .reading)) (a .reading .known .none) (a .reading .known .top) (a .lines) (a .text .now) (a .store .now)
-       (l .allowed) (l .number) (c .saturating-add-number .result) (c .in-Next .set) (l .rest .now) (f .result .0 .now) (f .result .1 .now) (l .store) (c .read-line .last .store) some (f .ensures .first some) (f .ensures .content) (f .ensures .behind) (c .saturating-add-number .ensures) (l .inv .1)
-       (turned-by (s .model) (s .rollback) (s .need) (names (a .reading)) (lookup (a .reading)) (a .reading .known .none) (a .reading .known .top) (l .allowed) (c .saturating-add-number .result) (f .result .0 .now) (l .store) (c .read-line .last .store) _ (Next (c .in-Next .set)) (c .in-Next .is) (e .turned)))
+    let e = c .in-Continue-set .ensures tt in (
+      advanced-trans (s .rollbackLaws) (l .inv .0) (e .advanced),
+      goes-more (s .model) (s .rollback) (s .need) (names (a .reading)) (lookup (a .reading)) (a .reading .known .none) (a .reading .known .top) (a .lines) (a .text .now) (a .store .now)
+          (l .allowed) (l .number) (c .saturating-add-number .result) (c .in-Next .set) (l .rest .now) (f .result .0 .now) (f .result .1 .now) (l .store) (c .read-line .last .store) some (f .ensures .first some) (f .ensures .content) (f .ensures .behind) (c .saturating-add-number .ensures) (l .inv .1)
+          (turned-by (s .model) (s .rollback) (s .need) (names (a .reading)) (lookup (a .reading)) (a .reading .known .none) (a .reading .known .top) (l .allowed) (c .saturating-add-number .result) (f .result .0 .now) (l .store) (c .read-line .last .store) _ (Next (c .in-Next .set)) (c .in-Next .is) (e .turned)),
+    )
 
 pub read-line-requires : need.read-line-requires
 read-line-requires g c κs = c .loop-rest .inv .0 .fine
@@ -56,8 +57,8 @@ returns-in-Break-set g c =
     record {
       advanced = advanced-trans (s .rollbackLaws) (l .inv .0) (e .advanced);
       runs = subst (λ (r : Result Rules RuleFault). Runs (s .model) (s .rollback) (s .need) (ruling (names (a .reading)) (lookup (a .reading)) (a .reading .known .none) (a .reading .known .top) (a .reading .known .top) (a .lines) (linesOf (a .text .now))) (a .store .now) (c .read-line .last .store) (seen answerOf r))
-        (sym (p .1 ∙ ap Err (p .2)))
-        (goes-refused (s .model) (s .rollback) (s .need) (names (a .reading)) (lookup (a .reading)) (a .reading .known .none) (a .reading .known .top) (a .lines) (a .text .now) (a .store .now)
+          (sym (p .1 ∙ ap Err (p .2)))
+          (goes-refused (s .model) (s .rollback) (s .need) (names (a .reading)) (lookup (a .reading)) (a .reading .known .none) (a .reading .known .top) (a .lines) (a .text .now) (a .store .now)
           (l .allowed) (l .number) (c .saturating-add-number .result) (l .rest .now) (f .result .0 .now) (f .result .1 .now) (c .in-Break-set .field-0 .0) (l .store) (c .read-line .last .store) some (f .ensures .first some) (f .ensures .content) (f .ensures .behind) (c .saturating-add-number .ensures) (l .inv .1) (e .turned));
     }
 
@@ -72,8 +73,8 @@ returns-in-Last g c =
     record {
       advanced = advanced-trans (s .rollbackLaws) (l .inv .0) (e .advanced);
       runs = goes-last (s .model) (s .rollback) (s .need) (names (a .reading)) (lookup (a .reading)) (a .reading .known .none) (a .reading .known .top) (a .lines) (a .text .now) (a .store .now)
-        (l .allowed) (l .number) (c .saturating-add-number .result) (l .rest .now) (f .result .0 .now) (f .result .1 .now) (l .store) (c .read-line .last .store) some (f .ensures .first some) (f .ensures .content) (f .ensures .behind) (c .saturating-add-number .ensures) (l .inv .1)
-        (turned-by (s .model) (s .rollback) (s .need) (names (a .reading)) (lookup (a .reading)) (a .reading .known .none) (a .reading .known .top) (l .allowed) (c .saturating-add-number .result) (f .result .0 .now) (l .store) (c .read-line .last .store) _ Last (c .in-Last .is) (e .turned));
+          (l .allowed) (l .number) (c .saturating-add-number .result) (l .rest .now) (f .result .0 .now) (f .result .1 .now) (l .store) (c .read-line .last .store) some (f .ensures .first some) (f .ensures .content) (f .ensures .behind) (c .saturating-add-number .ensures) (l .inv .1)
+          (turned-by (s .model) (s .rollback) (s .need) (names (a .reading)) (lookup (a .reading)) (a .reading .known .none) (a .reading .known .top) (l .allowed) (c .saturating-add-number .result) (f .result .0 .now) (l .store) (c .read-line .last .store) _ Last (c .in-Last .is) (e .turned));
     }
 
 pub returns : need.returns
@@ -84,5 +85,5 @@ returns g c =
     record {
       advanced = l .inv .0;
       runs = goes-end (s .model) (s .rollback) (s .need) (names (a .reading)) (lookup (a .reading)) (a .reading .known .none) (a .reading .known .top) (a .lines) (a .text .now) (a .store .now)
-        (l .allowed) (l .number) (l .rest .now) (l .store) (is-empty (length (l .rest .now)) (c .loop-rest-test .ensures tt)) (l .inv .1);
+          (l .allowed) (l .number) (l .rest .now) (l .store) (is-empty (length (l .rest .now)) (c .loop-rest-test .ensures tt)) (l .inv .1);
     }

@@ -46,11 +46,11 @@ returns-in-Ok g c =
     let zn = constant (s .model entry) (c .none .result) empty ok (c .none .ensures) in
     let tp = constant (s .model entry) (c .top .result) (s .model entry .allowed) ok (c .top .ensures) in
     let at = subst (λ (z : _). Denotes (s .model z) (c .in-Ok .rules .allowed) (allowedBy (s .model entry .allowed) ns (linesOf (a .text .now)))) (sym (c .keep .ensures))
-      (ruled-law (s .model) (s .rollback) (s .need) ns n (c .none .result) (c .top .result) (a .lines) (a .text .now) entry (c .gather .last .store) (answerOf (c .in-Ok .rules)) many zn tp (e .runs)) in
+    (ruled-law (s .model) (s .rollback) (s .need) ns n (c .none .result) (c .top .result) (a .lines) (a .text .now) entry (c .gather .last .store) (answerOf (c .in-Ok .rules)) many zn tp (e .runs)) in
     record {
       advanced = subst (λ (z : _). Advanced (s .valid) (s .model) (s .rollback) entry z) (sym (c .keep .ensures)) (e .advanced);
       outcome = when-true (eqb (length ns) n && distinct ns) _ _ fit
-        (c .none .result, c .top .result, zn, tp, subst (λ (z : _). Attempt (s .model) (s .rollback) (s .need) (ruled ns n (c .none .result) (c .top .result) (a .lines) (a .text .now)) entry z (Ok (answerOf (c .in-Ok .rules)))) (sym (c .keep .ensures)) (e .runs));
+          (c .none .result, c .top .result, zn, tp, subst (λ (z : _). Attempt (s .model) (s .rollback) (s .need) (ruled ns n (c .none .result) (c .top .result) (a .lines) (a .text .now)) entry z (Ok (answerOf (c .in-Ok .rules)))) (sym (c .keep .ensures)) (e .runs));
       allowed = at;
     }
 
@@ -71,6 +71,6 @@ returns-in-Err g c =
     record {
       advanced = record { fine = c .release .ensures .valid; more = 0; grown = extends-same (s .rollbackLaws) (c .pre) back };
       outcome = when-true (eqb (length ns) n && distinct ns) _ _ fit
-        (c .none .result, c .top .result, zn, tp, (back, (c .gather .last .store, e .runs)));
+          (c .none .result, c .top .result, zn, tp, (back, (c .gather .last .store, e .runs)));
       allowed = tt;
     }

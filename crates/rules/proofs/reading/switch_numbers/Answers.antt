@@ -29,10 +29,11 @@ loop-i-again g c =
     let n : ℕ = s .model e .n in
     let lt : l .i < n = omega (arith, c .loop-i-test .taken, c .switches-i-end .ensures) in
     let few : n ≤ 24 = s .consistent e (c .pre) .few in
-    let v = l .inv .0 .fine in
-    (advanced-trans (s .rollbackLaws) (l .inv .0) (advanced-op (s .rollbackLaws) (s .need) (switch (l .i)) (c .switch .result) v (c .switch .ensures .valid) (c .switch .ensures .outcome)),
-     length-set (l .numbers) (l .i) (c .in-Continue-numbers .field-0) ∙ l .inv .1,
-     goes-more (s .model) (s .rollback) (s .need) n e (l .i) (c .in-Continue-numbers .field-0) (l .numbers) (l .store) (c .switch .last .self) (c .switch .result) lt (omega (arith, lt, few, l .inv .1)) (l .inv .2) (c .switch .ensures .outcome) (c .in-Continue-numbers .ensures tt))
+    let v = l .inv .0 .fine in (
+      advanced-trans (s .rollbackLaws) (l .inv .0) (advanced-op (s .rollbackLaws) (s .need) (switch (l .i)) (c .switch .result) v (c .switch .ensures .valid) (c .switch .ensures .outcome)),
+      length-set (l .numbers) (l .i) (c .in-Continue-numbers .field-0) ∙ l .inv .1,
+      goes-more (s .model) (s .rollback) (s .need) n e (l .i) (c .in-Continue-numbers .field-0) (l .numbers) (l .store) (c .switch .last .self) (c .switch .result) lt (omega (arith, lt, few, l .inv .1)) (l .inv .2) (c .switch .ensures .outcome) (c .in-Continue-numbers .ensures tt),
+    )
 
 pub returns-in-Break-numbers : need.returns-in-Break-numbers
 returns-in-Break-numbers g c =
@@ -45,7 +46,7 @@ returns-in-Break-numbers g c =
     record {
       advanced = advanced-trans (s .rollbackLaws) (l .inv .0) (advanced-op (s .rollbackLaws) (s .need) (switch (l .i)) (c .switch .result) (l .inv .0 .fine) (c .switch .ensures .valid) (c .switch .ensures .outcome));
       runs = subst (λ (r : Result (List ℕ) RuleFault). Runs (s .model) (s .rollback) (s .need) (switching n 0 [] done) e (c .switch .last .self) (seen (take n) r)) (sym (p .1 ∙ ap Err (p .2)))
-        (goes-refused (s .model) (s .rollback) (s .need) n e (l .i) (c .in-Break-numbers .field-0 .0) (take (l .i) (l .numbers)) (l .store) (c .switch .last .self) (c .switch .result) lt (l .inv .2) (c .switch .ensures .outcome) (c .in-Break-numbers .ensures tt));
+          (goes-refused (s .model) (s .rollback) (s .need) n e (l .i) (c .in-Break-numbers .field-0 .0) (take (l .i) (l .numbers)) (l .store) (c .switch .last .self) (c .switch .result) lt (l .inv .2) (c .switch .ensures .outcome) (c .in-Break-numbers .ensures tt));
     }
 
 pub returns : need.returns
