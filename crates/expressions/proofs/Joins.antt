@@ -8,6 +8,7 @@ use mathlib.Core.Path.{_≡_, refl, sym, _∙_, ap, ap₂, subst}
 use mathlib.Core.Bool.{Bool, true, false, cond, _&&_}
 use mathlib.Core.Bool as bool
 use mathlib.Core.List.{List, [], _∷_, _++_, append-assoc}
+use mathlib.Core.Logic.{inl, inr}
 use Prim.Native.Nat.{ℕ, zero, suc, _+_, _≤_}
 use native.Mathlib.Omega.{arith}
 use lib.ListN.{length, length-append}
@@ -16,7 +17,7 @@ use Rattle.std.specs.declared.result.Result.the-variants.{Ok, Err}
 use Rattle.std.proofs.shelf.Tests.{and-parts, not-true}
 use Rattle.text.specs.Tokens.{Bytes, Tok, nought, name}
 use Rattle.expressions.specs.Grammar.{Expr, Out, after, more, chain}
-use Rattle.expressions.specs.Derived.{wrongTerm}
+use Rattle.expressions.specs.Derived.{wrongTerm, Behind-defined}
 
 abbrev pub Stuck : (List Tok → Out) → List Tok → ℕ → List Tok → Type 0
 Stuck c u n [] = Unit {0}
@@ -29,20 +30,29 @@ abbrev pub First : (List Tok → Type 0) → List Tok → Type 0
 First G [] = ⊥
 First G (x ∷ r) = G (x ∷ [])
 
-pub data Law (G G⁺ : List Tok → Type 0) (S : ℕ → List Tok → Type 0) (n : ℕ) (r : List Tok) : Type 0 where
-  name-due : n ≡ 13 → G (name (65 ∷ []) ∷ []) → S 13 (nought ∷ []) → Law G G⁺ S n r
-  term-due : n ≡ wrongTerm r → G (nought ∷ []) → ((x : Bytes) → S 15 (name x ∷ [])) → (n ≡ 16 → First G⁺ r) → Law G G⁺ S n r
-  neither : n ≡ 14 → S 14 (nought ∷ []) → ((x : Bytes) → S 14 (name x ∷ [])) → Law G G⁺ S n r
+pub data Law (G G⁺ : List Tok → Type 0) (S : ℕ → List Tok → Type 0) (u : List Tok) (n : ℕ) (r : List Tok) : Type 0 where
+  name-due : n ≡ 13 → G (name (65 ∷ []) ∷ []) → Behind-defined u → S 13 (nought ∷ []) → Law G G⁺ S u n r
+  term-due : n ≡ wrongTerm r → G (nought ∷ []) → ((x : Bytes) → S 15 (name x ∷ [])) → (n ≡ 16 → First G⁺ r) → Law G G⁺ S u n r
+  neither : n ≡ 14 → S 14 (nought ∷ []) → ((x : Bytes) → S 14 (name x ∷ [])) → Law G G⁺ S u n r
+
+behind-cons : (x : Tok) (u : List Tok) → Behind-defined u → Behind-defined (x ∷ u)
+behind-cons x u (w, inl e) = (x ∷ w, inl (ap (λ (z : List Tok). x ∷ z) e))
+behind-cons x u (w, inr e) = (x ∷ w, inr (ap (λ (z : List Tok). x ∷ z) e))
+
+pub behind-more : (p u : List Tok) → Behind-defined u → Behind-defined (p ++ u)
+behind-more [] u b = b
+behind-more (x ∷ p) u b = behind-cons x (p ++ u) (behind-more p u b)
 
 -- the same law of another reader, of which what is known of this one holds too
 module _ (G G⁺ H H⁺ : List Tok → Type 0) (S T : ℕ → List Tok → Type 0)
-    (can : (z : List Tok) → G z → H z) (can⁺ : (z : List Tok) → G⁺ z → H⁺ z) (stuck : (n : ℕ) (s : List Tok) → S n s → T n s) where
+    (can : (z : List Tok) → G z → H z) (can⁺ : (z : List Tok) → G⁺ z → H⁺ z) (stuck : (n : ℕ) (s : List Tok) → S n s → T n s)
+    (u v : List Tok) (behind : Behind-defined u → Behind-defined v) where
   first-by : (r : List Tok) → First G⁺ r → First H⁺ r
   first-by [] f = f
   first-by (x ∷ r) f = can⁺ (x ∷ []) f
 
-  pub law-by : (n : ℕ) (r : List Tok) → Law G G⁺ S n r → Law H H⁺ T n r
-  law-by n r (name-due e g s) = name-due e (can (name (65 ∷ []) ∷ []) g) (stuck 13 (nought ∷ []) s)
+  pub law-by : (n : ℕ) (r : List Tok) → Law G G⁺ S u n r → Law H H⁺ T v n r
+  law-by n r (name-due e g b s) = name-due e (can (name (65 ∷ []) ∷ []) g) (behind b) (stuck 13 (nought ∷ []) s)
   law-by n r (term-due e g s f) = term-due e (can (nought ∷ []) g) (λ x. stuck 15 (name x ∷ []) (s x)) (λ q. first-by r (f q))
   law-by n r (neither e s t) = neither e (stuck 14 (nought ∷ []) s) (λ x. stuck 14 (name x ∷ []) (t x))
 
@@ -50,7 +60,7 @@ module _ (G G⁺ H H⁺ : List Tok → Type 0) (S T : ℕ → List Tok → Type 
 abbrev pub Got : (List Tok → Out) → (List Tok → Expr → Type 0) → (List Tok → Expr → Type 0) → (List Tok → Bool) → List Tok → Out → Type 0
 Got c D D⁺ stop ts (Ok p) = (u : List Tok) × (ts ≡ u ++ p .1) × D u (p .0) × (stop (p .1) ≡ true)
 Got c D D⁺ stop ts (Err f) =
-    (u : List Tok) × (ts ≡ u ++ f .1) × Can D u [] × Stuck c u (f .0) (f .1) × Law (Can D u) (Can D⁺ u) (λ n s. Stuck c u n s) (f .0) (f .1)
+    (u : List Tok) × (ts ≡ u ++ f .1) × Can D u [] × Stuck c u (f .0) (f .1) × Law (Can D u) (Can D⁺ u) (λ n s. Stuck c u n s) u (f .0) (f .1)
 
 pub record Reads (t : List Tok → Out) (D D⁺ : List Tok → Expr → Type 0) (stop : List Tok → Bool) : Type 0 where
   pub got : (ts : List Tok) → Got t D D⁺ stop ts (t ts)
@@ -139,7 +149,7 @@ module _ (op : Tok → Bool) (o : Tok) (is-op : op o ≡ true) (only : (x : Tok)
           can D u w e j [] (g .2),
           stuck u w e j (f .0) (f .1) (g .3),
           law-by (Can D w) (Can D⁺ w) (Can J (u ++ o ∷ w)) (Can J⁺ (u ++ o ∷ w)) (λ n s. Stuck t w n s) (λ n s. Stuck c (u ++ o ∷ w) n s)
-              (can D u w e j) (can D⁺ u w e (raised u e j)) (stuck u w e j) (f .0) (f .1) (g .4),
+              (can D u w e j) (can D⁺ u w e (raised u e j)) (stuck u w e j) w (u ++ o ∷ w) (λ b. behind-more u (o ∷ w) (behind-more (o ∷ []) w b)) (f .0) (f .1) (g .4),
         )
 
     turn : (x : Tok) → stop (x ∷ r) ≡ true → (b : Bool) → op x ≡ b
@@ -162,7 +172,7 @@ module _ (op : Tok → Bool) (o : Tok) (is-op : op o ≡ true) (only : (x : Tok)
     in-one D [] (g .2),
     same (f .0) (f .1) (g .3),
     law-by (Can D (g .0)) (Can D⁺ (g .0)) (Can J (g .0)) (Can J⁺ (g .0)) (λ n s. Stuck t (g .0) n s) (λ n s. Stuck c (g .0) n s)
-        (in-one D) (in-one D⁺) same (f .0) (f .1) (g .4),
+        (in-one D) (in-one D⁺) same (g .0) (g .0) (λ b. b) (f .0) (f .1) (g .4),
   )
     where
       same : (n : ℕ) (s : List Tok) → Stuck t (g .0) n s → Stuck c (g .0) n s

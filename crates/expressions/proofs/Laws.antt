@@ -44,8 +44,8 @@ too-deep : (u r : List Tok) → First (Can (Derives ors 17) u) r → One-too-dee
 too-deep u [] f = f
 too-deep u (x ∷ r) f = way 17 u x f
 
-number : (u : List Tok) (n : ℕ) (r : List Tok) → Law (Can (Derives ors 16) u) (Can (Derives ors 17) u) (λ n s. Refuses u n s) n r → Number u n r
-number u n r (name-due e g s) = no-name e (65 ∷ [], way 16 u (name (65 ∷ [])) g) (no-way u nought 13 s)
+number : (u : List Tok) (n : ℕ) (r : List Tok) → Law (Can (Derives ors 16) u) (Can (Derives ors 17) u) (λ n s. Refuses u n s) u n r → Number u n r
+number u n r (name-due e g b s) = no-name e (65 ∷ [], way 16 u (name (65 ∷ [])) g) b (no-way u nought 13 s)
 number u n r (term-due e g s f) = no-term e (way 16 u nought g) (λ i. no-way u (name (i .0)) 15 (s (i .0)) (i .1)) (λ q. too-deep u r (f q))
 number u n r (neither e s t) = surplus e (no-way u nought 14 s) (λ i. no-way u (name (i .0)) 14 (t (i .0)) (i .1))
 
@@ -77,7 +77,7 @@ module _ (ts : List Tok) where
     stops (f .1) (g .1) (g .3) (ap finished q),
     number (g .0) (f .0) (f .1)
         (law-by (Can (Derives ors 16) (g .0)) (Can (Derives ors 17) (g .0)) (Can (Derives ors 16) (g .0)) (Can (Derives ors 17) (g .0))
-        (λ n s. Stuck (λ ts. expr 16 ts) (g .0) n s) (λ n s. Refuses (g .0) n s) (λ z i. i) (λ z i. i) (refuses (g .0)) (f .0) (f .1) (g .4)),
+        (λ n s. Stuck (λ ts. expr 16 ts) (g .0) n s) (λ n s. Refuses (g .0) n s) (λ z i. i) (λ z i. i) (refuses (g .0)) (g .0) (g .0) (λ b. b) (f .0) (f .1) (g .4)),
   )
     where
       stops : (s : List Tok) → ts ≡ g .0 ++ s → Stuck (λ ts. expr 16 ts) (g .0) (f .0) s → parsed ts ≡ Err f → Stops (g .0) (f .0) s

@@ -3,6 +3,7 @@ use mathlib.Core.Path.{_≡_, refl, sym, _∙_, ap, ap₂, subst}
 use mathlib.Core.Bool.{Bool, true, false, cond, _&&_}
 use mathlib.Core.Bool as bool
 use mathlib.Core.List.{List, [], _∷_, _++_, append-assoc}
+use mathlib.Core.Logic.{inl, inr}
 use Prim.Native.Nat.{ℕ, zero, suc}
 use native.Mathlib.Omega.{arith}
 use Rattle.std.specs.declared.result.Result.{Result}
@@ -10,7 +11,7 @@ use Rattle.std.specs.declared.result.Result.the-variants.{Ok, Err}
 use Rattle.text.specs.Tokens.{Bytes, Tok, nought, unit, defined, not, and, or, opened, closed, name, other}
 use Rattle.expressions.specs.Grammar.{Expr, never, always, named, neg, conj, disj, isAnd, isOr, isClose, Out, after, closing, insideBy, inside, nameBy, nameDue, termBy, first, more, chain, exprBy, term, expr, ended, finished, parsed}
 use Rattle.expressions.specs.Derived.{Part, a-term, ands, ors, Derives, zero-is, one-is, defined-is, wrapped-is, not-is, group-is, and-one, and-more, or-one, or-more, Expression, Exact, One-only, Goes-on, Goes-on-within, Stops, At-first, Term-due, Name-due, wrongTerm, One-too-deep, Number, no-name, no-term, surplus, Numbered}
-use Rattle.expressions.proofs.Joins.{Stuck, Can, Law, name-due, term-due, neither, law-by, Got, Reads, Joined, one, next, begins, joined}
+use Rattle.expressions.proofs.Joins.{Stuck, Can, Law, name-due, term-due, neither, law-by, behind-more, Got, Reads, Joined, one, next, begins, joined}
 
 only-and : (x : Tok) → isAnd x ≡ true → x ≡ and
 only-and nought e = cc
@@ -72,7 +73,7 @@ module _ (t : List Tok → Out) (D D⁺ E E⁺ : List Tok → Expr → Type 0) (
     as-can D E to (g .0) [] (g .2),
     g .3,
     law-by (Can D (g .0)) (Can D⁺ (g .0)) (Can E (g .0)) (Can E⁺ (g .0)) (λ n s. Stuck t (g .0) n s) (λ n s. Stuck t (g .0) n s)
-        (as-can D E to (g .0)) (as-can D⁺ E⁺ to⁺ (g .0)) (λ n s h. h) (f .0) (f .1) (g .4),
+        (as-can D E to (g .0)) (as-can D⁺ E⁺ to⁺ (g .0)) (λ n s h. h) (g .0) (g .0) (λ b. b) (f .0) (f .1) (g .4),
   )
 
   as-rules : Reads t E E⁺ stop
@@ -123,7 +124,7 @@ module _ (l : ℕ) (n o : List Tok → Out) where
   D⁺ = Derives a-term (suc l)
 
   abbrev Refused : List Tok → ℕ → List Tok → Type 0
-  Refused u m r = Law (Can D u) (Can D⁺ u) (λ n s. Stuck T u n s) m r
+  Refused u m r = Law (Can D u) (Can D⁺ u) (λ n s. Stuck T u n s) u m r
 
   -- behind a name in parentheses
   abbrev wrapped : Bytes → List Tok
@@ -144,7 +145,7 @@ module _ (l : ℕ) (n o : List Tok → Out) where
       )
 
   open-law : (r : List Tok) → Refused (defined ∷ opened ∷ []) 13 r
-  open-law r = name-due refl (closed ∷ [], named letter, wrapped-is letter) (λ v. refl)
+  open-law r = name-due refl (closed ∷ [], named letter, wrapped-is letter) ([], inr refl) (λ v. refl)
 
   after-open : (r : List Tok) → Got T D D⁺ any (defined ∷ opened ∷ r) (inside r)
   after-open [] = (defined ∷ opened ∷ [], refl, (name letter ∷ closed ∷ [], named letter, wrapped-is letter), tt, open-law [])
@@ -160,7 +161,7 @@ module _ (l : ℕ) (n o : List Tok → Out) where
   after-open (other ∷ r) = (defined ∷ opened ∷ [], refl, (name letter ∷ closed ∷ [], named letter, wrapped-is letter), (λ v. refl), open-law (other ∷ r))
 
   defined-law : (r : List Tok) → Refused (defined ∷ []) 13 r
-  defined-law r = name-due refl ([], named letter, defined-is letter) (λ v. refl)
+  defined-law r = name-due refl ([], named letter, defined-is letter) ([], inl refl) (λ v. refl)
 
   after-defined : (r : List Tok) → Got T D D⁺ any (defined ∷ r) (nameDue r)
   after-defined [] = (defined ∷ [], refl, (name letter ∷ [], named letter, defined-is letter), tt, defined-law [])
@@ -251,7 +252,7 @@ module _ (l : ℕ) (R : Reads (λ ts. term l ts) (Derives a-term l) (Derives a-t
     not-stuck (g .0) (f .0) (f .1) (g .3),
     law-by (Can (A l) (g .0)) (Can (A (suc l)) (g .0)) (Can (A (suc l)) (not ∷ g .0)) (Can (A (suc (suc l))) (not ∷ g .0))
         (λ n s. Stuck (λ ts. term l ts) (g .0) n s) (λ n s. Stuck U (not ∷ g .0) n s)
-        (not-can l (g .0)) (not-can (suc l) (g .0)) (not-stuck (g .0)) (f .0) (f .1) (g .4),
+        (not-can l (g .0)) (not-can (suc l) (g .0)) (not-stuck (g .0)) (g .0) (not ∷ g .0) (behind-more (not ∷ []) (g .0)) (f .0) (f .1) (g .4),
   )
 
   -- behind an expression in parentheses only `)` can stand
@@ -259,7 +260,7 @@ module _ (l : ℕ) (R : Reads (λ ts. term l ts) (Derives a-term l) (Derives a-t
   unclosed u e d y v h q = ap (λ (z : Out). after z closing) (E .complete u e d (y ∷ v) h) ∙ ap (λ (b : Bool). cond b (Ok (e, v)) (Err (14, y ∷ v))) q
 
   close-law : (u : List Tok) (e : Expr) (r : List Tok) → Derives ors l u e
-      → Law (Can (A (suc l)) (opened ∷ u)) (Can (A (suc (suc l))) (opened ∷ u)) (λ n s. Stuck U (opened ∷ u) n s) 14 r
+      → Law (Can (A (suc l)) (opened ∷ u)) (Can (A (suc (suc l))) (opened ∷ u)) (λ n s. Stuck U (opened ∷ u) n s) (opened ∷ u) 14 r
   close-law u e r d = neither refl (λ v. unclosed u e d nought v refl refl) (λ x v. unclosed u e d (name x) v refl refl)
 
   close-got : (u : List Tok) (e : Expr) (s : List Tok) → Derives ors l u e → no-more s ≡ true → Got U (A (suc l)) (A (suc (suc l))) any (opened ∷ (u ++ s)) (closing e s)
@@ -299,7 +300,7 @@ module _ (l : ℕ) (R : Reads (λ ts. term l ts) (Derives a-term l) (Derives a-t
     open-stuck (g .0) (f .0) (f .1) (g .3),
     law-by (Can (Derives ors l) (g .0)) (Can (Derives ors (suc l)) (g .0)) (Can (A (suc l)) (opened ∷ g .0)) (Can (A (suc (suc l))) (opened ∷ g .0))
         (λ n s. Stuck (exprBy (λ ts. term l ts)) (g .0) n s) (λ n s. Stuck U (opened ∷ g .0) n s)
-        (open-can l (g .0)) (open-can (suc l) (g .0)) (open-stuck (g .0)) (f .0) (f .1) (g .4),
+        (open-can l (g .0)) (open-can (suc l) (g .0)) (open-stuck (g .0)) (g .0) (opened ∷ g .0) (behind-more (opened ∷ []) (g .0)) (f .0) (f .1) (g .4),
   )
 
   deep-complete : (u : List Tok) (e : Expr) → Derives a-term (suc l) u e → (v : List Tok) → any v ≡ true → term (suc l) (u ++ v) ≡ Ok (e, v)

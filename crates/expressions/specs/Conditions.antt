@@ -1,13 +1,16 @@
 -- The condition that stands in a line, its refusal with the place, and its steps in the order in which they are worked out. Assumes nothing.
 --   kinds ps               the tokens without their places
 --   placeOr z ps           the place of the first token, or z
+--   located z ps r         the answer r over the tokens ps with the byte of a refusal in place of the tokens that it leaves; z is one past the line
 --   conditionAt c line from   the expression from offset `from` on, or the number of the refusal and its byte: the place of the first token that
 --                          cannot go on, or one past the line
 --   Item                   a step: a constant, a name with its bytes, or an operation on what the steps before it left
 --   postfix e              the steps of e: operands first, left to right
 --   itemAt line s          the step s of the code, whose name is a part of the line
 --   items line ss          the same for several
+--   alone, nameOf, nameAlone   a name and no token behind it
 --   onlyName c line from   the one name from offset `from` on, or the number and the byte of the refusal: 13 where no name stands, 14 at a token behind it
+--   surplusAt ps           the refusal of the first token
 --   nothingAt c line from  none, or the number and the byte of the refusal of the first token from offset `from` on
 use mathlib.Core.Bool.{Bool}
 use mathlib.Core.List.{List, [], _∷_, _++_, map}
@@ -30,7 +33,6 @@ kinds (p ∷ ps) = p .0 ∷ kinds ps
 abbrev pub placeOr : ℕ → List Placed → ℕ
 placeOr z ps = placeIn z ps
 
--- a refusal that leaves some tokens, at its place
 abbrev pub located : ℕ → List Placed → Result Expr (ℕ × List Tok) → Result Expr (ℕ × ℕ)
 located z ps (Ok e) = Ok e
 located z ps (Err f) = Err (f .0, placeOr z (drop (length ps - length (f .1)) ps))
@@ -61,7 +63,6 @@ itemAt line Or = or-item
 abbrev pub items : Bytes → List Step → List Item
 items line steps = map (itemAt line) steps
 
--- no token may stand behind the name
 abbrev pub alone : Bytes → List Placed → Result Bytes (ℕ × ℕ)
 alone x [] = Ok x
 alone x (p ∷ ps) = Err (14, p .1)

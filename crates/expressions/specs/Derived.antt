@@ -8,13 +8,15 @@
 --   Stops u n r        behind u the first of r, or the end, cannot stand
 --   At-first           a refusal is at the first token that cannot go on
 --   Term-due u, Name-due u   behind u a term can stand; a name can
+--   Behind-defined u   the last of u is `defined`, or `defined (`
 --   wrongTerm r        the number of a refusal where a term is due and r stands
 --   One-too-deep u r   the first of r could stand behind u, were there one level more
---   Number u n r       the number n of a refusal behind u, where r is left, by what is due there: 13 where a name is; where a term is 15 for a name,
---                      16 for the `!` or `(` that is one too deep, else 14; 14 where neither is
+--   Number u n r       the number n of a refusal behind u, where r is left, by what is due there: 13 where a name is, behind `defined` or `defined (`; where a term is
+--                      15 for a name, 16 for the `!` or `(` that is one too deep, else 14; 14 where neither is
 --   Numbered           every refusal has that number
 use mathlib.Core.Path.{_≡_}
 use mathlib.Core.List.{List, [], _∷_, _++_}
+use mathlib.Core.Logic.{_⊎_}
 use Prim.Native.Nat.{ℕ, suc}
 use Rattle.std.specs.declared.result.Result.the-variants.{Ok, Err}
 use Rattle.text.specs.Tokens.{Bytes, Tok, nought, unit, defined, not, and, or, opened, closed, name, other}
@@ -63,9 +65,11 @@ Goes-on-within l u = (w : List Tok) × (e : Expr) × Derives ors l (u ++ w) e
 abbrev pub Term-due : List Tok → Type 0
 Term-due u = Goes-on (u ++ nought ∷ [])
 
--- no name is a term, so that one can stand only behind `defined` and `defined (`
 abbrev pub Name-due : List Tok → Type 0
 Name-due u = (x : Bytes) × Goes-on (u ++ name x ∷ [])
+
+abbrev pub Behind-defined : List Tok → Type 0
+Behind-defined u = (w : List Tok) × ((u ≡ w ++ defined ∷ []) ⊎ (u ≡ w ++ defined ∷ opened ∷ []))
 
 abbrev pub wrongTerm : List Tok → ℕ
 wrongTerm [] = 14
@@ -85,7 +89,7 @@ One-too-deep u [] = ⊥
 One-too-deep u (x ∷ r) = Goes-on-within 17 (u ++ x ∷ [])
 
 pub data Number (u : List Tok) (n : ℕ) (r : List Tok) : Type 0 where
-  no-name : n ≡ 13 → Name-due u → (Term-due u → ⊥) → Number u n r
+  no-name : n ≡ 13 → Name-due u → Behind-defined u → (Term-due u → ⊥) → Number u n r
   no-term : n ≡ wrongTerm r → Term-due u → (Name-due u → ⊥) → (n ≡ 16 → One-too-deep u r) → Number u n r
   surplus : n ≡ 14 → (Term-due u → ⊥) → (Name-due u → ⊥) → Number u n r
 

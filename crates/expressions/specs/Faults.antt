@@ -1,5 +1,5 @@
 -- The numbers of the faults of a line with a condition. Assumes nothing.
---   located n l b   the refusal n of an expression at byte b of line l
+--   refused n l b   the refusal n of an expression at byte b of line l
 --   described f     the refusal that the fault f is
 use Prim.Native.Nat.{ℕ}
 use Rattle.faults.specs.declared.Refusal.{Refusal}

@@ -15,8 +15,8 @@ use Rattle.expressions.specs.Grammar.{Expr, Out, expr, finished, parsed}
 use Rattle.expressions.specs.Derived.{Expression, Goes-on, Stops, Number}
 use Rattle.expressions.specs.Conditions.{kinds, placeOr, located, conditionAt, Item, items, postfix}
 use Rattle.expressions.specs.Faults.{refused, described}
-use Rattle.parser.specs.Parsing.{noneLeft, ahead, line, written, Ready, Run, Read, Refused, Outcome, Completed}
-use Rattle.parser.specs.Answers.{Answered, RefusedAt, Conforms}
+use Rattle.parser.specs.Parsing.{noneLeft, ahead, lineOf, written, Ready, Run, Read, Refused, Outcome, Completed}
+use Rattle.expressions.specs.Answers.{Answered, RefusedAt, Conforms}
 use Rattle.expressions.specs.declared.condition.Step.{Step}
 use Rattle.expressions.specs.declared.condition.Condition.{Condition}
 use Rattle.expressions.specs.declared.fault.ExpressionFault.{ExpressionFault}
@@ -105,9 +105,9 @@ kinds-append [] r = refl
 kinds-append (x ∷ s) r = ap (λ (z : List Tok). x .0 ∷ z) (kinds-append s r)
 
 -- The line l, its tokens ts, and its parser p before them and q behind.
-module _ (l : Bytes) (ts : List Placed) (n : ℕ) (p q : Parser) (tokens : ahead p ≡ ts) (same : line p ≡ l) (num : p .number ≡ n) (none : p .len ≡ 0) where
+module _ (l : Bytes) (ts : List Placed) (n : ℕ) (p q : Parser) (tokens : ahead p ≡ ts) (same : lineOf p ≡ l) (num : p .number ≡ n) (none : p .len ≡ 0) where
   written-none : written p ≡ []
-  written-none = ap (λ (k : ℕ). items (line p) (take k (p .steps))) none
+  written-none = ap (λ (k : ℕ). items (lineOf p) (take k (p .steps))) none
 
   done : (z : Result Expr (ℕ × List Tok)) → Completed p q (Ok tt) z → (e : Expr) × (z ≡ Ok e) × (items l (take (q .len) (q .steps)) ≡ postfix e)
   done (Ok e) o =

@@ -19,7 +19,7 @@ use Rattle.text.specs.declared.scanner.Tokens.{Tokens}
 use Rattle.expressions.specs.Grammar.{Expr, Out}
 use Rattle.expressions.specs.Conditions.{kinds, Item, itemAt, items}
 use Rattle.expressions.specs.Faults.{refused, described}
-use Rattle.parser.specs.Parsing.{before, ahead, line, written, Ready, Run, Advanced, Read, Refused, Outcome}
+use Rattle.parser.specs.Parsing.{before, ahead, lineOf, written, Ready, Run, Advanced, Read, Refused, Outcome}
 use Rattle.expressions.specs.declared.condition.Step.{Step}
 use Rattle.expressions.specs.declared.fault.ExpressionFault.{ExpressionFault}
 use Rattle.parser.specs.declared.descent.Parser.{Parser}
@@ -39,15 +39,15 @@ append-none (x ∷ q) = ap (λ z. x ∷ z) (append-none q)
 
 pub advanced : (p : Parser) (tk : Tokens) (t : Token) → Ready p → 0 < length (ahead p)
     → Pulls (placed t) (left (p .tokens)) (left tk)
-    → place t ≡ placeOr (suc (length (line p))) (left (p .tokens))
-    → bytes t ≡ take (length (bytes t)) (drop (place t - 1) (line p))
+    → place t ≡ placeOr (suc (length (lineOf p))) (left (p .tokens))
+    → bytes t ≡ take (length (bytes t)) (drop (place t - 1) (lineOf p))
     → tk .line ≡ p .tokens .line
     → Advanced p (record { tokens = tk; token = t; number = p .number; steps = p .steps; len = p .len })
 advanced p tk t g h k at part same =
     let q : Parser = record { tokens = tk; token = t; number = p .number; steps = p .steps; len = p .len } in
     let x = front (placed (p .token)) (left (p .tokens)) h in
     let rest : ahead q ≡ left (p .tokens) = pulled (placed t) (left (p .tokens)) (left tk) k in
-    let bs : line q ≡ line p = ap (λ r. r .now) same in
+    let bs : lineOf q ≡ lineOf p = ap (λ r. r .now) same in
     let way : ahead p ≡ x .0 ∷ ahead q = x .1 ∙ ap (λ (z : List Placed). x .0 ∷ z) (sym rest) in (
       x .0,
       record {
@@ -74,12 +74,12 @@ module _ (p : Parser) (step : Step) (g : Ready p) (h : p .len + length (ahead p)
       let lt : p .len < length (p .steps) = omega (arith, g .size) in
       ap (λ (n : ℕ). take n (set (p .steps) (p .len) step)) (add-one (p .len)) ∙ take-suc-set (p .steps) (p .len) step lt
 
-  pub emitted-run : Run p emitted [] (itemAt (line p) step ∷ [])
+  pub emitted-run : Run p emitted [] (itemAt (lineOf p) step ∷ [])
   emitted-run = record {
     line = refl;
     number = refl;
     ahead = refl;
-    written = ap (items (line p)) one-more ∙ map-append (itemAt (line p)) (take (p .len) (p .steps)) (step ∷ []);
+    written = ap (items (lineOf p)) one-more ∙ map-append (itemAt (lineOf p)) (take (p .len) (p .steps)) (step ∷ []);
     len = refl;
   }
 

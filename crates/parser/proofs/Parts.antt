@@ -19,7 +19,7 @@ use Rattle.text.specs.declared.scanner.Token.the-variants.{Name}
 use Rattle.expressions.specs.Grammar.{Expr, never, always, named, neg, isClose, Out, after, closing, inside, nameDue, exprBy, term, expr}
 use Rattle.expressions.specs.Conditions.{kinds, Item, false-item, true-item, not-item, name-item, itemAt, items, postfix}
 use Rattle.expressions.specs.Faults.{refused, described}
-use Rattle.parser.specs.Parsing.{nextIs, isOpen, nameFirst, before, ahead, line, written, Ready, Run, Advanced, Read, Refused, Outcome}
+use Rattle.parser.specs.Parsing.{nextIs, isOpen, nameFirst, before, ahead, lineOf, written, Ready, Run, Advanced, Read, Refused, Outcome}
 use Rattle.expressions.specs.declared.condition.Step.the-variants.{Defined}
 use Rattle.expressions.specs.declared.fault.ExpressionFault.{ExpressionFault}
 use Rattle.parser.specs.declared.descent.Parser.{Parser}
@@ -178,14 +178,14 @@ through w p q r s z k y f a h o =
 
 -- A name.
 pub name-yes : (p q r : Parser) (part : Part) → Ready p → p .token ≡ Name part → Advanced p q
-    → Run q r [] (itemAt (line q) (Defined (part .at) (length (part .text .now))) ∷ []) → Ready r
+    → Run q r [] (itemAt (lineOf q) (Defined (part .at) (length (part .text .now))) ∷ []) → Ready r
     → Outcome postfix p r (Ok tt) (nameFirst (kinds (ahead p)))
 name-yes p q r part g t a b c =
     let x = part .text .now in
     let k : kinds (ahead p) ≡ name x ∷ kinds (ahead q) = head-is p q (name x) (part .at) (ap placed t) a in
-    let m : x ≡ take (length x) (drop (part .at - 1) (line p)) =
-    subst (λ (t : Token). bytes t ≡ take (length (bytes t)) (drop (place t - 1) (line p))) t (g .part) in
-    let i : take (length x) (drop (part .at - 1) (line q)) ≡ x = ap (λ (l : Bytes). take (length x) (drop (part .at - 1) l)) (a .1 .line) ∙ sym m in
+    let m : x ≡ take (length x) (drop (part .at - 1) (lineOf p)) =
+    subst (λ (t : Token). bytes t ≡ take (length (bytes t)) (drop (place t - 1) (lineOf p))) t (g .part) in
+    let i : take (length x) (drop (part .at - 1) (lineOf q)) ≡ x = ap (λ (l : Bytes). take (length x) (drop (part .at - 1) l)) (a .1 .line) ∙ sym m in
     reads postfix p r (nameFirst (kinds (ahead p))) (named x) (kinds (ahead r))
     (ap nameFirst k ∙ ap (λ (ps : List Placed). Ok (named x, kinds ps)) (b .ahead))
     (record {

@@ -1,8 +1,10 @@
 -- What the parser's functions do. Assumes nothing.
 --   nextIs op ts       the first token is one that op tells
---   nameFirst ts       the name that stands first, read
+--   isOpen t           the token is `(`
+--   nameOr, nameFirst  the name that stands first, read, or the refusal of what stands there
+--   before o ps        the tokens from the current one on, where ps are behind it
 --   ahead p            the tokens that are not read yet
---   line p             the bytes of the line
+--   lineOf p           the bytes of the line
 --   written p          the steps so far
 --   Ready p            the current token is a part of the line at its place, and there is room for a step of each token ahead
 --   Run p q s is       from p to q the tokens s were read and the steps `is` written
@@ -68,20 +70,20 @@ before (Some p) ps = p ∷ ps
 abbrev pub ahead : Parser → List Placed
 ahead p = before (placed (p .token)) (left (p .tokens))
 
-abbrev pub line : Parser → Bytes
-line p = p .tokens .line .now
+abbrev pub lineOf : Parser → Bytes
+lineOf p = p .tokens .line .now
 
 abbrev pub written : Parser → List Item
-written p = items (line p) (take (p .len) (p .steps))
+written p = items (lineOf p) (take (p .len) (p .steps))
 
 pub record Ready (p : Parser) : Type 0 where
-  pub at : place (p .token) ≡ placeOr (suc (length (line p))) (ahead p)
-  pub part : bytes (p .token) ≡ take (length (bytes (p .token))) (drop (place (p .token) - 1) (line p))
+  pub at : place (p .token) ≡ placeOr (suc (length (lineOf p))) (ahead p)
+  pub part : bytes (p .token) ≡ take (length (bytes (p .token))) (drop (place (p .token) - 1) (lineOf p))
   pub room : p .len + length (ahead p) ≤ 255
   pub size : length (p .steps) ≡ 255
 
 pub record Run (p q : Parser) (s : List Placed) (is : List Item) : Type 0 where
-  pub line : line q ≡ line p
+  pub line : lineOf q ≡ lineOf p
   pub number : q .number ≡ p .number
   pub ahead : ahead p ≡ s ++ ahead q
   pub written : written q ≡ written p ++ is
@@ -102,7 +104,7 @@ pub record Refused (p : Parser) (f : ExpressionFault) (n : ℕ) (r : List Tok) :
   pub from : List Placed
   pub split : ahead p ≡ past ++ from
   pub rest : kinds from ≡ r
-  pub fault : described f ≡ refused n (p .number) (placeOr (suc (length (line p))) from)
+  pub fault : described f ≡ refused n (p .number) (placeOr (suc (length (lineOf p))) from)
 
 abbrev pub Outcome : (Expr → List Item) → Parser → Parser → Result (Unit {0}) ExpressionFault → Out → Type 0
 Outcome w p q (Ok u) (Ok o) = Read w p q (o .0) (o .1)
@@ -111,7 +113,7 @@ Outcome w p q (Err f) (Ok o) = ⊥
 Outcome w p q (Err f) (Err g) = Refused p f (g .0) (g .1)
 
 abbrev pub Completed : Parser → Parser → Result (Unit {0}) ExpressionFault → Result Expr (ℕ × List Tok) → Type 0
-Completed p q (Ok u) (Ok e) = (line q ≡ line p) × (written q ≡ written p ++ postfix e)
+Completed p q (Ok u) (Ok e) = (lineOf q ≡ lineOf p) × (written q ≡ written p ++ postfix e)
 Completed p q (Ok u) (Err g) = ⊥
 Completed p q (Err f) (Ok e) = ⊥
 Completed p q (Err f) (Err g) = Refused p f (g .0) (g .1)

@@ -8,7 +8,7 @@ ghost use Rattle.text.specs.Pulling.{place};
 ghost use Rattle.expressions.specs.declared.fault.ExpressionFault.the-variants.{NameDue, WrongToken, BareName, TooDeep};
 ghost use Rattle.expressions.specs.Grammar.{Expr, isAnd, isOr, isClose, closing, nameDue, term as termOf, andsOf, expr as exprOf, parsed};
 ghost use Rattle.expressions.specs.Conditions.{Item, itemAt, kinds, postfix};
-ghost use Rattle.parser.specs.Parsing.{nextIs, isOpen, nameFirst, noneLeft, ahead, line, Ready, Run, Advanced, Outcome, Completed};
+ghost use Rattle.parser.specs.Parsing.{nextIs, isOpen, nameFirst, noneLeft, ahead, lineOf, Ready, Run, Advanced, Outcome, Completed};
 use expressions::condition::MAX_LINE;
 use expressions::condition::Step;
 use expressions::fault::ExpressionFault;
@@ -18,6 +18,7 @@ use text::Tokens;
 // How many of `!` and `(` may stand around one place.
 const MAX_LEVELS: usize = 16;
 
+// What is read of a line, and the steps written for it.
 #[derive(Drop)]
 pub struct Parser<'a> {
     tokens: Tokens<'a>,
@@ -73,7 +74,7 @@ impl<'a> Parser<'a> {
     fn emit(&mut self, step: Step)
         requires ready { ⌜ Ready (now self) ⌝ }
         requires room { ⌜ now self .len + length (ahead (now self)) < 255 ⌝ }
-        ensures run { λ _. ⌜ Run (now (self .entry)) (now (self .exit)) [] (itemAt (line (now (self .entry))) step ∷ []) ⌝ }
+        ensures run { λ _. ⌜ Run (now (self .entry)) (now (self .exit)) [] (itemAt (lineOf (now (self .entry))) step ∷ []) ⌝ }
         ensures ready { λ _. ⌜ Ready (now (self .exit)) ⌝ }
     {
         self.steps[self.len] = step;
@@ -205,7 +206,7 @@ impl<'a> Parser<'a> {
         }
     }
 
-    // A term around which `left` more of `!` and `(` may stand inside.
+    // A term, inside which `left` more of `!` and `(` may stand around one place.
     fn term(&mut self, left: usize) -> Result<(), ExpressionFault>
         requires { ⌜ Ready (now self) ⌝ }
         ensures { λ r. ⌜ Outcome postfix (now (self .entry)) (now (self .exit)) r (termOf left (kinds (ahead (now (self .entry))))) ⌝ }

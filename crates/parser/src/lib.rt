@@ -1,14 +1,14 @@
-// Reading from a line what may stand there: a condition, one name, or nothing. Uses the tokens of `text`, and the grammar, the steps and the faults of `expressions`.
-// Promises: each answer is what the definitions say of the line, a condition is read exactly where the grammar derives one, and a fault has the number
-// and the place of the first token that cannot go on.
+// Reading a condition from a line. Uses the tokens of `text`, and the grammar, the steps and the faults of `expressions`.
+// Promises: a condition is read exactly where the grammar derives one, with its steps, and a fault has the number and the place of the first token that
+// cannot go on.
 ghost use mathlib.Core.Path.{_≡_};
 ghost use Prim.Native.Nat.{_≤_, _<_};
 ghost use lib.ListN.{length};
 ghost use Rattle.std.specs.declared.result.Result.the-variants.{Err};
 ghost use Rattle.text.specs.Tokens.{tokensAt};
 ghost use Rattle.expressions.specs.declared.fault.ExpressionFault.the-variants.{LineTooLong};
-ghost use Rattle.expressions.specs.Conditions.{conditionAt, onlyName, nothingAt};
-ghost use Rattle.parser.specs.Answers.{Answered, Named, Empty, Conforms};
+ghost use Rattle.expressions.specs.Conditions.{conditionAt};
+ghost use Rattle.expressions.specs.Answers.{Answered, Conforms};
 
 mod descent;
 
@@ -16,9 +16,6 @@ use descent::Parser;
 use expressions::condition::Condition;
 use expressions::condition::MAX_LINE;
 use expressions::fault::ExpressionFault;
-use text::Part;
-use text::Token;
-use text::Tokens;
 
 // The condition that stands in `line` from offset `from` on, where comments may be known. The line comes without its line feed; faults name it by `number`.
 pub fn condition<'a>(
@@ -41,56 +38,4 @@ pub fn condition<'a>(
         steps: parser.steps,
         len: parser.len,
     })
-}
-
-// The one name that stands there.
-pub fn only_name<'a>(
-    line: &'a [u8],
-    from: usize,
-    comments: bool,
-    number: usize,
-) -> Result<Part<'a>, ExpressionFault>
-    ensures long { λ r. ⌜ (255 < length (now (line .entry)) → r ≡ Err (LineTooLong number)) ⌝ }
-    ensures reads { λ r. ⌜ (length (now (line .entry)) ≤ 255 → Named (now (line .entry)) (tokensAt comments (now (line .entry)) from) number (onlyName comments (now (line .entry)) from) r) ⌝ }
-{
-    if line.len() > MAX_LINE {
-        return Err(ExpressionFault::LineTooLong { line: number });
-    }
-    let mut tokens = Tokens::new(line, from, comments);
-    match tokens.next() {
-        Token::Name(name) => match tokens.next() {
-            Token::End(_) => Ok(name),
-            token => Err(ExpressionFault::WrongToken {
-                line: number,
-                byte: token.part().at,
-            }),
-        },
-        token => Err(ExpressionFault::NameDue {
-            line: number,
-            byte: token.part().at,
-        }),
-    }
-}
-
-// That nothing stands there.
-pub fn nothing(
-    line: &[u8],
-    from: usize,
-    comments: bool,
-    number: usize,
-) -> Result<(), ExpressionFault>
-    ensures long { λ r. ⌜ (255 < length (now (line .entry)) → r ≡ Err (LineTooLong number)) ⌝ }
-    ensures reads { λ r. ⌜ (length (now (line .entry)) ≤ 255 → Empty number (nothingAt comments (now (line .entry)) from) r) ⌝ }
-{
-    if line.len() > MAX_LINE {
-        return Err(ExpressionFault::LineTooLong { line: number });
-    }
-    let mut tokens = Tokens::new(line, from, comments);
-    match tokens.next() {
-        Token::End(_) => Ok(()),
-        token => Err(ExpressionFault::WrongToken {
-            line: number,
-            byte: token.part().at,
-        }),
-    }
 }

@@ -23,7 +23,7 @@ use Rattle.expressions.specs.Placed.{onLine, readIn, unless}
 use Rattle.expressions.specs.declared.condition.Condition.{Condition}
 use Rattle.expressions.specs.declared.fault.ExpressionFault.{ExpressionFault}
 use Rattle.expressions.specs.declared.fault.ExpressionFault.the-variants.{LineTooLong}
-use Rattle.parser.specs.Answers.{Answered, Named, Empty}
+use Rattle.expressions.specs.Answers.{Answered, Named, Empty}
 
 module _ (line : Bytes) (l : ℕ) where
   -- a line that is too long, or one whose tokens decide

@@ -7,7 +7,7 @@ use Rattle.text.specs.Tokens.{tokensAt}
 use Rattle.expressions.specs.declared.condition.Condition.{Condition}
 use Rattle.expressions.specs.declared.fault.ExpressionFault.{ExpressionFault}
 use Rattle.expressions.specs.Conditions.{conditionAt}
-use Rattle.parser.specs.Answers.{Answered, Conforms}
+use Rattle.expressions.specs.Answers.{Answered, Conforms}
 use Rattle.parser.proofs.Parts.{exits}
 use Rattle.parser.proofs.Lines.{answered, conforms, refused-answer, refused-place}
 use Rattle.parser.proofs.condition.Needs as need

@@ -1,8 +1,6 @@
-use mathlib.Core.Path.{ap}
 use Prim.Native.Nat.{_-_}
 use native.Mathlib.Omega.{arith}
 use borrow.Author.Needs.{needs}
-use lib.ListN.{length, take, length-take}
 use Rattle.expressions.proofs.Cuts.{take-least}
 use Rattle.expressions.proofs.condition.Condition.steps.Needs as need
 
