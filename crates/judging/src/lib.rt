@@ -3,12 +3,13 @@
 ghost use mathlib.Core.Path.{_≡_};
 ghost use Prim.Native.Nat.{ℕ, _<_};
 ghost use Rattle.std.specs.Of.Vec.{vec-items};
-ghost use Rattle.std.specs.Vec.{made};
+ghost use Rattle.std.specs.Vec.{made, refused};
 ghost use Rattle.lines.specs.Lines.{linesOf};
 ghost use Rattle.names.specs.Names.{texts};
 ghost use Rattle.rules.specs.Allowed.{allowedBy};
 ghost use Rattle.judging.specs.Judged.{AllStand, Judged};
 ghost use Rattle.judging.specs.Texts.{JudgedText};
+ghost use Rattle.judging.specs.Refused.{SwitchRefused, OverRefused, TextRefused};
 
 pub mod fault;
 
@@ -37,6 +38,7 @@ fn judge_switches<S: Store>(heap: Global, store: &mut S) -> Result<Vec<Standing>
     requires { ⌜ valid (now store) ⌝ }
     ensures same { λ _. ⌜ now (store .exit) ≡ now (store .entry) ⌝ }
     ensures stand { λ r. ⌜ made r (λ v. AllStand (model (now (store .entry)) .allowed) (model (now (store .entry)) .n) (vec-items v)) ⌝ }
+    ensures refused { λ r. ⌜ refused r (SwitchRefused model rollback need (now (store .entry))) ⌝ }
 {
     let mut standings = Vec::new(heap);
     for i in 0..store.switches() {
@@ -54,7 +56,8 @@ pub fn judge_over<S: Store + Drop>(
     mut store: S,
 ) -> Result<(Vec<Standing>, u32), JudgingFault>
     requires { ⌜ valid store ⌝ }
-    ensures { λ r. ⌜ made r (λ j. Judged (allowedBy (model store .allowed) (texts (now (names .entry))) (linesOf (now (text .entry)))) (model store .n) (vec-items (j .0)) (j .1)) ⌝ }
+    ensures judged { λ r. ⌜ made r (λ j. Judged (allowedBy (model store .allowed) (texts (now (names .entry))) (linesOf (now (text .entry)))) (model store .n) (vec-items (j .0)) (j .1)) ⌝ }
+    ensures refused { λ r. ⌜ refused r (OverRefused model rollback need (texts (now (names .entry))) lines (now (text .entry)) store) ⌝ }
 {
     let rules = read_rules(names, text, lines, &mut store)?;
     let mut layer = match Layer::make(store, rules.allowed) {
@@ -96,7 +99,8 @@ pub fn judge<'a>(
     text: &'a [u8],
     words: &mut [u64],
 ) -> Result<Judgement<'a>, JudgingFault>
-    ensures { λ r. ⌜ made r (JudgedText (now (text .entry))) ⌝ }
+    ensures judged { λ r. ⌜ made r (JudgedText (now (text .entry))) ⌝ }
+    ensures refused { λ r. ⌜ refused r (TextRefused (now (text .entry)) (now (words .entry))) ⌝ }
 {
     let Declarations { names, lines, rest } = read_switches(heap, text)?;
     // beyond the largest number there are too many switches anyway

@@ -2,6 +2,16 @@ use mathlib.Core.Path.{_≡_, refl, sym, ap, subst, _∙_}
 use Prim.Native.Nat.{ℕ, _<_}
 use native.Mathlib.Omega.{arith}
 use Rattle.std.specs.Of.Vec.{vec-items}
+use Rattle.std.specs.Vec.{refused}
+use Rattle.std.specs.declared.alloc.Global.{Global}
+use Rattle.std.specs.declared.vec.Vec.{Vec}
+use Rattle.std.specs.declared.result.Result.{Result}
+use Rattle.std.specs.declared.result.Result.the-variants.{Err}
+use Rattle.std.proofs.shelf.Results.{err-from-errBy}
+use Rattle.standing.specs.declared.verdict.Standing.{Standing}
+use Rattle.judging.specs.declared.fault.JudgingFault.{JudgingFault}
+use Rattle.judging.specs.declared.fault.JudgingFault.the-variants.{Store}
+use Rattle.judging.specs.Refused.{SwitchRefused}
 use Rattle.standing.specs.Standing.{Stands}
 use Rattle.judging.specs.Judged.{AllStand}
 use Rattle.judging.proofs.Standings.{stand-none, stand-more, refused-made}
@@ -15,11 +25,27 @@ standing-requires g c κs = subst (g .S·Store .valid) (sym (c .loop-i .inv .0))
 
 pub returns-in-Break-standing : need.returns-in-Break-standing
 returns-in-Break-standing g c =
-    record { same = c .in-Break-standing .ensures tt .same ∙ c .loop-i .inv .0; stand = refused-made (c .from-residual .result) _ (c .from-residual .ensures .0) }
+    let s = g .S·Store in
+    let l = c .loop-i in
+    let e = c .in-Break-standing .ensures tt in
+    let f = c .in-Break-standing .field-0 .0 in
+    let p = err-from-errBy (c .from-residual .result) (c .from-residual .ensures .1) in
+    record {
+      same = e .same ∙ l .inv .0;
+      stand = refused-made (c .from-residual .result) _ (c .from-residual .ensures .0);
+      refused = subst (λ (r : Result (Vec Standing Global) JudgingFault). refused r (SwitchRefused (s .model) (s .rollback) (s .need) (c .args .store .now))) (sym (p .1 ∙ ap Err (p .2)))
+        (subst (λ (z : _). SwitchRefused (s .model) (s .rollback) (s .need) z (Store f)) (l .inv .0) (l .i, e .asked .0, e .asked .1, e .asked .2, e .asked .3));
+    }
 
 pub returns-in-Break-push : need.returns-in-Break-push
 returns-in-Break-push g c =
-    record { same = c .in-Continue-standing .ensures tt .same ∙ c .loop-i .inv .0; stand = refused-made (c .from-residual-in-Break-push .result) _ (c .from-residual-in-Break-push .ensures .0) }
+    let s = g .S·Store in
+    let p = err-from-errBy (c .from-residual-in-Break-push .result) (c .from-residual-in-Break-push .ensures .1) in
+    record {
+      same = c .in-Continue-standing .ensures tt .same ∙ c .loop-i .inv .0;
+      stand = refused-made (c .from-residual-in-Break-push .result) _ (c .from-residual-in-Break-push .ensures .0);
+      refused = subst (λ (r : Result (Vec Standing Global) JudgingFault). refused r (SwitchRefused (s .model) (s .rollback) (s .need) (c .args .store .now))) (sym (p .1 ∙ ap Err (p .2))) tt;
+    }
 
 pub loop-i-again : need.loop-i-again
 loop-i-again g c =
@@ -38,4 +64,4 @@ returns g c =
     let l = c .loop-i in
     let n : ℕ = s .model (c .args .store .now) .n in
     let e : l .i ≡ n = omega (arith, c .loop-i-test .left, l .kept .i-end, c .switches-i-end .ensures) in
-    record { same = l .inv .0; stand = subst (λ (j : ℕ). AllStand (s .model (c .args .store .now) .allowed) j (vec-items (l .standings))) e (l .inv .1) }
+    record { same = l .inv .0; stand = subst (λ (j : ℕ). AllStand (s .model (c .args .store .now) .allowed) j (vec-items (l .standings))) e (l .inv .1); refused = tt }
