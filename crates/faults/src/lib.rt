@@ -1,4 +1,6 @@
 // What every refusal says, whatever layer it comes from. Uses nothing; every other crate may use it.
+ghost use Rattle.std.specs.declared.option.Option.the-variants.{Some};
+ghost use Rattle.faults.specs.Shown.{layerText, refusalText};
 use std::fmt;
 
 // The layer that refuses.
@@ -22,6 +24,8 @@ pub struct Refusal {
 }
 
 pub impl fmt::Display for Layer as LayerDisplay {
+    ghost shown = { λ l. Some (layerText l) };
+
     fn fmt<W: fmt::Write>(&self, f: &mut fmt::Formatter<W>) -> fmt::Result {
         match self {
             Layer::Store => f.write_str("store"),
@@ -35,6 +39,8 @@ pub impl fmt::Display for Layer as LayerDisplay {
 }
 
 pub impl fmt::Display for Refusal as RefusalDisplay {
+    ghost shown = { λ r. Some (refusalText r) };
+
     fn fmt<W: fmt::Write>(&self, f: &mut fmt::Formatter<W>) -> fmt::Result {
         let number = self.number;
         let layer = self.layer;

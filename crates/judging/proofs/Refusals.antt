@@ -26,8 +26,8 @@ use Rattle.judging.specs.Faults.{ofDeclarations}
 use Rattle.judging.specs.Refused.{SwitchRefused, OverRefused, TextRefused}
 
 pub over-switch : {S : Type 0} (model : S → Model) (rollback : S → ℕ → S) (need : S → Op → ℕ) (names : List Bytes) (l : ℕ) (text : Bytes) (s s₁ : S) (rules : Rules) (layer : Layer S) (f : JudgingFault)
-  → RulesOutcome model rollback need names l text s s₁ (Ok rules) → MakeAttempts model rollback need s₁ (rules .allowed) (Ok layer)
-  → SwitchRefused (layerModel model) (layerRollback rollback) (layerNeed need) layer f → OverRefused model rollback need names l text s f
+    → RulesOutcome model rollback need names l text s s₁ (Ok rules) → MakeAttempts model rollback need s₁ (rules .allowed) (Ok layer)
+    → SwitchRefused (layerModel model) (layerRollback rollback) (layerNeed need) layer f → OverRefused model rollback need names l text s f
 over-switch model rollback need names l text s s₁ rules layer (judging.Store f) r m h = (s₁, rules, layer, r, m, h)
 over-switch model rollback need names l text s s₁ rules layer (judging.Rules f) r m h = absurd h
 over-switch model rollback need names l text s s₁ rules layer (judging.Layer f) r m h = absurd h

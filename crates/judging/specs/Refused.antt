@@ -55,5 +55,5 @@ TextRefused text ws f =
     ((g : RuleFault) × (f ≡ judging.Rules g) × (declaredIn text ≡ Err (described g)))
     ⊎ (((d : Declared) × (g : StoreFault) × (f ≡ judging.Store g) × (declaredIn text ≡ Ok d) × (due (length ws) (min (length (d .names)) (2 ^ 32 - 1)) ≡ Some g))
     ⊎ (((d : Declared) × (s : Bitmaps) × (declaredIn text ≡ Ok d) × New ws (length (d .names)) s
-       × OverRefused (λ (b : Bitmaps). means (now (b .words))) bitmapRollback (λ b op. one op) (d .names) (d .lines) (d .rest) s f)
+    × OverRefused (λ (b : Bitmaps). means (now (b .words))) bitmapRollback (λ b op. one op) (d .names) (d .lines) (d .rest) s f)
     ⊎ (f ≡ judging.OutOfMemory)))

@@ -53,7 +53,7 @@ returns-in-Break-store c =
     record {
       judged = refused-made (c .from-residual-in-Break-store .result) _ (c .from-residual-in-Break-store .ensures .0);
       refused = told (c .args .text .now) ws (c .from-residual-in-Break-store .result) _ (p .1 ∙ ap Err (p .2))
-        (inr (inl (declaredOf d, f, refl, c .in-Continue-names .ensures tt, subst (λ (n : ℕ). due (length ws) n ≡ Some f) many (c .in-Break-store .ensures tt))));
+          (inr (inl (declaredOf d, f, refl, c .in-Continue-names .ensures tt, subst (λ (n : ℕ). due (length ws) n ≡ Some f) many (c .in-Break-store .ensures tt))));
     }
 
 pub returns-in-Break-standings : need.returns-in-Break-standings
@@ -71,8 +71,13 @@ returns-in-Break-standings c =
     record {
       judged = refused-made (c .from-residual-in-Break-standings .result) _ (c .from-residual-in-Break-standings .ensures .0);
       refused = told (c .args .text .now) ws (c .from-residual-in-Break-standings .result) _ (p .1 ∙ ap Err (p .2))
-        (inr (inr (inl (declaredOf d, store, c .in-Continue-names .ensures tt, subst (λ (n : ℕ). New ws n store) many made,
-          subst (λ (ns : List (List ℕ)). OverRefused (λ (b : Bitmaps). means (b .words .now)) rollback (λ b op. one op) ns (d .lines) (d .rest .now) store f) (ap texts (c .as-slice .ensures .value)) (c .in-Break-standings .ensures tt .refused)))));
+          (inr (inr (inl (
+            declaredOf d,
+            store,
+            c .in-Continue-names .ensures tt,
+            subst (λ (n : ℕ). New ws n store) many made,
+            subst (λ (ns : List (List ℕ)). OverRefused (λ (b : Bitmaps). means (b .words .now)) rollback (λ b op. one op) ns (d .lines) (d .rest .now) store f) (ap texts (c .as-slice .ensures .value)) (c .in-Break-standings .ensures tt .refused),
+          ))));
     }
 
 pub returns : need.returns
@@ -85,12 +90,14 @@ returns c =
     let many : count ≡ length (texts items) = omega (arith, few, c .min-count .ensures, c .len .ensures, d .names .ok .0, length-texts items) in
     let model = made .model in
     record {
-      judged = (declaredOf d,
+      judged = (
+        declaredOf d,
         c .in-Continue-names .ensures tt,
         refl,
         judged-by _ _ _ _ (c .in-Continue-standings .lowest) (vec-items (c .in-Continue-standings .standings))
-          (ap₂ (λ (A : Set) (ns : List (List ℕ)). allowedBy A ns (linesOf (d .rest .now))) (ap (λ (m : Model). m .allowed) model ∙ ap everything many) (ap texts (c .as-slice .ensures .value)))
-          (ap (λ (m : Model). m .n) model ∙ many)
-          (c .in-Continue-standings .ensures tt .judged));
+            (ap₂ (λ (A : Set) (ns : List (List ℕ)). allowedBy A ns (linesOf (d .rest .now))) (ap (λ (m : Model). m .allowed) model ∙ ap everything many) (ap texts (c .as-slice .ensures .value)))
+            (ap (λ (m : Model). m .n) model ∙ many)
+            (c .in-Continue-standings .ensures tt .judged),
+      );
       refused = tt;
     }

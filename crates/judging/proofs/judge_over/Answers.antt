@@ -41,10 +41,10 @@ returns-in-Some g c =
     let sat : Set = λ k. satisfies (rulesIn (linesOf (a .text .now))) (defines ns k) in
     record {
       judged = judged (allowedBy (s .model (a .store) .allowed) ns (linesOf (a .text .now))) L L′ (setAt (layerModel (s .model) seen) (c .top .result)) (s .model (a .store) .n) (layerModel (s .model) layer .n) (c .in-Some .lowest) (vec-items (c .in-Continue-standings .standings)) (c .in-Continue-lowest .field-0)
-    (layer-allows (s .model (a .store) .allowed) (m₁ .allowed) (setAt m₁ (c .in-Continue-rules .rules .allowed)) L sat (moved .allowed) (read .allowed .is) (mk .allowed))
-    (mk .n ∙ moved .n)
-    (ap (λ (l : _). layerModel (s .model) l .allowed) (c .in-Continue-standings .ensures tt .same))
-    (c .top .ensures .1) (c .in-Continue-standings .ensures tt .stand) (c .in-Continue-lowest .ensures tt .1) (c .in-Some .is);
+          (layer-allows (s .model (a .store) .allowed) (m₁ .allowed) (setAt m₁ (c .in-Continue-rules .rules .allowed)) L sat (moved .allowed) (read .allowed .is) (mk .allowed))
+          (mk .n ∙ moved .n)
+          (ap (λ (l : _). layerModel (s .model) l .allowed) (c .in-Continue-standings .ensures tt .same))
+          (c .top .ensures .1) (c .in-Continue-standings .ensures tt .stand) (c .in-Continue-lowest .ensures tt .1) (c .in-Some .is);
       refused = tt;
     }
 
@@ -56,7 +56,7 @@ returns-in-Break-rules g c =
     record {
       judged = refused-made (c .from-residual .result) _ (c .from-residual .ensures .0);
       refused = subst (λ (r : Outcome). refused r (OverRefused (s .model) (s .rollback) (s .need) (texts (a .names .now)) (a .lines) (a .text .now) (a .store))) (sym (p .1 ∙ ap Err (p .2)))
-        (c .read-rules .last .store, c .in-Break-rules .ensures tt .outcome);
+          (c .read-rules .last .store, c .in-Break-rules .ensures tt .outcome);
     }
 
 pub returns-in-Err : need.returns-in-Err
@@ -74,7 +74,7 @@ returns-in-Break-standings g c =
     record {
       judged = refused-made (c .from-residual-in-Break-standings .result) _ (c .from-residual-in-Break-standings .ensures .0);
       refused = subst (λ (r : Outcome). refused r (OverRefused (s .model) (s .rollback) (s .need) (texts (a .names .now)) (a .lines) (a .text .now) (a .store))) (sym (p .1 ∙ ap Err (p .2)))
-        (over-switch (s .model) (s .rollback) (s .need) (texts (a .names .now)) (a .lines) (a .text .now) (a .store) (c .read-rules .last .store) (c .in-Continue-rules .rules) (c .in-Ok .layer) (c .in-Break-standings .field-0 .0)
+          (over-switch (s .model) (s .rollback) (s .need) (texts (a .names .now)) (a .lines) (a .text .now) (a .store) (c .read-rules .last .store) (c .in-Continue-rules .rules) (c .in-Ok .layer) (c .in-Break-standings .field-0 .0)
           (c .in-Continue-rules .ensures tt .outcome) (c .in-Ok .ensures tt .attempts) (c .in-Break-standings .ensures tt .refused));
     }
 

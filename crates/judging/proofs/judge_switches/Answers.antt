@@ -34,7 +34,7 @@ returns-in-Break-standing g c =
       same = e .same ∙ l .inv .0;
       stand = refused-made (c .from-residual .result) _ (c .from-residual .ensures .0);
       refused = subst (λ (r : Result (Vec Standing Global) JudgingFault). refused r (SwitchRefused (s .model) (s .rollback) (s .need) (c .args .store .now))) (sym (p .1 ∙ ap Err (p .2)))
-        (subst (λ (z : _). SwitchRefused (s .model) (s .rollback) (s .need) z (Store f)) (l .inv .0) (l .i, e .asked .0, e .asked .1, e .asked .2, e .asked .3));
+          (subst (λ (z : _). SwitchRefused (s .model) (s .rollback) (s .need) z (Store f)) (l .inv .0) (l .i, e .asked .0, e .asked .1, e .asked .2, e .asked .3));
     }
 
 pub returns-in-Break-push : need.returns-in-Break-push
