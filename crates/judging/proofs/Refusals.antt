@@ -19,9 +19,9 @@ use Rattle.rules.specs.Read.{RulesOutcome}
 use Rattle.rules.specs.declared.reading.Rules.{Rules}
 use Rattle.judging.specs.declared.fault.JudgingFault.{JudgingFault}
 use Rattle.judging.specs.declared.fault.JudgingFault.the-variants as judging
-use Rattle.rules.specs.Declarations.{DeclarationsOutcome}
-use Rattle.rules.specs.declared.declaration.DeclarationFault.{DeclarationFault}
-use Rattle.rules.specs.declared.declaration.DeclarationFault.the-variants as declaration
+use Rattle.rulelines.specs.Declarations.{DeclarationsOutcome}
+use Rattle.rulelines.specs.declared.declaration.DeclarationFault.{DeclarationFault}
+use Rattle.rulelines.specs.declared.declaration.DeclarationFault.the-variants as declaration
 use Rattle.judging.specs.Faults.{ofDeclarations}
 use Rattle.judging.specs.Refused.{SwitchRefused, OverRefused, TextRefused}
 

@@ -6,9 +6,9 @@ use Rattle.std.specs.declared.option.Option.{Option}
 use Rattle.std.specs.declared.option.Option.the-variants.{Some, None}
 use Rattle.stores.specs.Faults.{described as store}
 use Rattle.layers.specs.Faults.{described as layer}
-use Rattle.rules.specs.Faults.{described as rules}
-use Rattle.rules.specs.declared.declaration.DeclarationFault.{DeclarationFault}
-use Rattle.rules.specs.declared.declaration.DeclarationFault.the-variants as declaration
+use Rattle.rulelines.specs.Faults.{described as rules}
+use Rattle.rulelines.specs.declared.declaration.DeclarationFault.{DeclarationFault}
+use Rattle.rulelines.specs.declared.declaration.DeclarationFault.the-variants as declaration
 use Rattle.judging.specs.declared.fault.JudgingFault.{JudgingFault}
 use Rattle.judging.specs.declared.fault.JudgingFault.the-variants.{Rules, Store, Layer, OutOfMemory}
 

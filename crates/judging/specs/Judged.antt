@@ -9,7 +9,7 @@ use lib.Dec.{ltb}
 use lib.ListN.{length, getD}
 use Rattle.stores.specs.Sets.{Set, Lowest}
 use Rattle.lines.specs.Lines.{linesOf}
-use Rattle.rules.specs.Declaring.{Declared}
+use Rattle.rulelines.specs.Declaring.{Declared}
 use Rattle.rules.specs.Allowed.{allowedBy}
 use Rattle.standing.specs.declared.verdict.Standing.{Standing}
 use Rattle.standing.specs.declared.verdict.Standing.the-variants.{Free}

@@ -24,10 +24,10 @@ use Rattle.layers.specs.Making.{MakeAttempts}
 use Rattle.layers.specs.declared.Layer.{Layer}
 use Rattle.layers.specs.declared.MakeError.{MakeError}
 use Rattle.text.specs.Tokens.{Bytes}
-use Rattle.rules.specs.Faults.{described}
-use Rattle.rules.specs.Declaring.{Declared, declaredIn}
+use Rattle.rulelines.specs.Faults.{described}
+use Rattle.rulelines.specs.Declaring.{Declared, declaredIn}
 use Rattle.rules.specs.Read.{RulesOutcome}
-use Rattle.rules.specs.declared.fault.RuleFault.{RuleFault}
+use Rattle.rulelines.specs.declared.fault.RuleFault.{RuleFault}
 use Rattle.rules.specs.declared.reading.Rules.{Rules}
 use Rattle.standing.specs.Standing.{StandingOutcome}
 use Rattle.judging.specs.declared.fault.JudgingFault.{JudgingFault}

@@ -8,7 +8,7 @@ use lib.ListN.{length}
 use Rattle.std.specs.Of.Vec.{vec-items}
 use Rattle.std.specs.declared.result.Result.the-variants.{Ok}
 use Rattle.names.specs.Names.{texts}
-use Rattle.rules.specs.Declaring.{Declared, declaredIn}
+use Rattle.rulelines.specs.Declaring.{Declared, declaredIn}
 use Rattle.judging.specs.declared.Judgement.{Judgement}
 use Rattle.judging.specs.Judged.{Judged, allowedIn}
 

@@ -5,8 +5,8 @@ ghost use Rattle.judging.specs.declared.fault.JudgingFault.the-variants.{Rules
 ghost use Rattle.judging.specs.Faults.{ofDeclarations};
 use faults::Refusal;
 use layers::fault::LayerFault;
-use rules::declaration::DeclarationFault;
-use rules::fault::RuleFault;
+use rulelines::declaration::DeclarationFault;
+use rulelines::fault::RuleFault;
 use std::alloc::AllocError;
 use std::alloc::Refused;
 use stores::fault::StoreFault;

@@ -19,9 +19,9 @@ use Rattle.expressions.specs.Grammar.{Expr}
 use Rattle.expressions.specs.Faults.{described as expression}
 use Rattle.expressions.specs.declared.fault.ExpressionFault.{ExpressionFault}
 use Rattle.evaluation.specs.Worked.{worked}
-use Rattle.rules.specs.declared.fault.RuleFault.{RuleFault}
-use Rattle.rules.specs.declared.fault.RuleFault.the-variants.{Store, Expression, Undeclared}
-use Rattle.rules.specs.Faults.{declarations, described}
+use Rattle.rulelines.specs.declared.fault.RuleFault.{RuleFault}
+use Rattle.rulelines.specs.declared.fault.RuleFault.the-variants.{Store, Expression, Undeclared}
+use Rattle.rulelines.specs.Faults.{declarations, described}
 use Rattle.rules.specs.Ruled.{Looked, Answer, known, rule}
 use Rattle.rules.specs.Turns.{blamedOn, Next-steps, Goes}
 

@@ -35,10 +35,10 @@ use Rattle.evaluation.specs.Worked.{worked}
 use Rattle.evaluation.specs.Meaning.{Denotes, AgreesOn, Within, Entry, Named, Valued}
 use Rattle.evaluation.proofs.Later.{denotes-later, named-later}
 use Rattle.evaluation.proofs.Values.{worked-valued}
-use Rattle.rules.specs.declared.kind.LineKind.{LineKind}
-use Rattle.rules.specs.declared.kind.LineKind.the-variants.{Blank, Switch, Rule, Begin, Foreign}
-use Rattle.rules.specs.Faults.{declarations}
-use Rattle.rules.specs.Kinds.{kindOf, nextLine}
+use Rattle.rulelines.specs.declared.kind.LineKind.{LineKind}
+use Rattle.rulelines.specs.declared.kind.LineKind.the-variants.{Blank, Switch, Rule, Begin, Foreign}
+use Rattle.rulelines.specs.Faults.{declarations}
+use Rattle.rulelines.specs.Kinds.{kindOf, nextLine}
 use Rattle.rules.specs.Ruled.{Looked, Answer, numberAt, entryOf, known, switching, rule, ended, misplaced, byKind, ruling, ruled}
 use Rattle.rules.specs.Allowed.{isOn, defines, also, rulesBy, rulesIn, satisfies, allowedBy}
 

@@ -1,4 +1,3 @@
-pub mod Parsed
 pub mod Law
 pub mod Known
 pub mod Applied
@@ -6,4 +5,3 @@ pub mod Lined
 pub mod Loop
 pub mod Switching
 pub mod Rules
-pub mod Naming

@@ -18,13 +18,13 @@ use Rattle.expressions.specs.Placed.{readIn, unless}
 use Rattle.expressions.specs.Faults.{described as expression}
 use Rattle.expressions.specs.declared.fault.ExpressionFault.{ExpressionFault}
 use Rattle.expressions.specs.declared.fault.ExpressionFault.the-variants.{LineTooLong}
-use Rattle.rules.specs.declared.fault.RuleFault.{RuleFault}
-use Rattle.rules.specs.declared.fault.RuleFault.the-variants.{Expression, Misplaced}
-use Rattle.rules.specs.declared.kind.LineKind.{LineKind}
-use Rattle.rules.specs.declared.kind.LineKind.the-variants.{Blank, Switch, Rule, Begin, Foreign}
+use Rattle.rulelines.specs.declared.fault.RuleFault.{RuleFault}
+use Rattle.rulelines.specs.declared.fault.RuleFault.the-variants.{Expression, Misplaced}
+use Rattle.rulelines.specs.declared.kind.LineKind.{LineKind}
+use Rattle.rulelines.specs.declared.kind.LineKind.the-variants.{Blank, Switch, Rule, Begin, Foreign}
 use Rattle.rules.specs.declared.reading.Turn.{Turn}
 use Rattle.rules.specs.declared.reading.Turn.the-variants.{Next, Last}
-use Rattle.rules.specs.Faults.{declarations, described}
+use Rattle.rulelines.specs.Faults.{declarations, described}
 use Rattle.rules.specs.Ruled.{Looked, Answer, rule, ended, misplaced, byKind}
 use Rattle.rules.specs.Read.{lined}
 use Rattle.rules.specs.Turns.{Next-steps, Goes, Turned, foreignLine}

@@ -15,12 +15,12 @@ use Rattle.stores.specs.Outcome.{Op}
 use Rattle.stores.specs.Steps.{Steps, Runs}
 use Rattle.lines.specs.Lines.{Line, untilFeed, pastFeed, linesOf, FirstLine}
 use Rattle.text.specs.Tokens.{Bytes}
-use Rattle.rules.specs.declared.fault.RuleFault.{RuleFault}
-use Rattle.rules.specs.declared.fault.RuleFault.the-variants.{NoBegin}
+use Rattle.rulelines.specs.declared.fault.RuleFault.{RuleFault}
+use Rattle.rulelines.specs.declared.fault.RuleFault.the-variants.{NoBegin}
 use Rattle.rules.specs.declared.reading.Turn.{Turn}
 use Rattle.rules.specs.declared.reading.Turn.the-variants.{Next, Last}
-use Rattle.rules.specs.Faults.{described}
-use Rattle.rules.specs.Kinds.{kindOf, nextLine}
+use Rattle.rulelines.specs.Faults.{described}
+use Rattle.rulelines.specs.Kinds.{kindOf, nextLine}
 use Rattle.rules.specs.Ruled.{Looked, Answer, byKind, ruling}
 use Rattle.rules.specs.Read.{lined}
 use Rattle.rules.specs.Turns.{Turned}
@@ -72,13 +72,6 @@ module _ {S : Type 0} (model : S → Model) (rollback : S → ℕ → S) (need :
   pub goes-end : (acc l : ℕ) (rest : Bytes) (s : S) → length rest ≡ 0 → GoesOn acc l rest s → Runs model rollback need (ruling names look none top top l₀ (linesOf text)) s₀ s (Err (described NoBegin))
   goes-end acc l [] s e go = go s (Err (described NoBegin)) (refl, refl)
   goes-end acc l (x ∷ rest) s e go = absurd (omega arith)
-
-pub not-empty : (n : ℕ) → false ≡ eqb n 0 → 0 < n
-not-empty zero e = let z : _≡_ {A = ℕ} 0 1 = cc in absurd (omega arith)
-not-empty (suc n) e = omega arith
-
-pub is-empty : (n : ℕ) → true ≡ eqb n 0 → n ≡ 0
-is-empty n e = eqb-true n 0 (sym e)
 
 -- a turn that is known
 pub turned-by : {S : Type 0} (model : S → Model) (rollback : S → ℕ → S) (need : S → Op → ℕ) (names : List Bytes) (look : Looked) (none top acc l : ℕ) (line : Bytes) (s s₁ : S) (t u : Turn) → t ≡ u

@@ -15,9 +15,9 @@ use Rattle.stores.specs.Steps.{Steps, done, fail, ask, then, Runs}
 use Rattle.stores.specs.Faults.{described as store}
 use Rattle.stores.specs.declared.fault.StoreFault.{StoreFault}
 use Rattle.stores.proofs.Runs.{ok-same, ok-not-err, err-same, runs-then, runs-refused}
-use Rattle.rules.specs.declared.fault.RuleFault.{RuleFault}
-use Rattle.rules.specs.declared.fault.RuleFault.the-variants.{Store}
-use Rattle.rules.specs.Faults.{described}
+use Rattle.rulelines.specs.declared.fault.RuleFault.{RuleFault}
+use Rattle.rulelines.specs.declared.fault.RuleFault.the-variants.{Store}
+use Rattle.rulelines.specs.Faults.{described}
 use Rattle.rules.specs.Ruled.{switching}
 use Rattle.rules.specs.Turns.{blamedOn}
 use mathlib.Core.Path.{fun-ext}

@@ -17,9 +17,9 @@ use Rattle.text.specs.Tokens.{Bytes}
 use Rattle.expressions.specs.Grammar.{Expr}
 use Rattle.expressions.specs.Truth.{Env, truth}
 use Rattle.expressions.specs.Conditions.{conditionAt}
-use Rattle.rules.specs.declared.kind.LineKind.{LineKind}
-use Rattle.rules.specs.declared.kind.LineKind.the-variants.{Blank, Switch, Rule, Begin, Foreign}
-use Rattle.rules.specs.Kinds.{kindOf}
+use Rattle.rulelines.specs.declared.kind.LineKind.{LineKind}
+use Rattle.rulelines.specs.declared.kind.LineKind.the-variants.{Blank, Switch, Rule, Begin, Foreign}
+use Rattle.rulelines.specs.Kinds.{kindOf}
 
 abbrev pub isOn : Option ℕ → ℕ → Bool
 isOn None k = false

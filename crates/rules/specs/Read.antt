@@ -17,8 +17,8 @@ use Rattle.stores.specs.Model.{Model}
 use Rattle.stores.specs.Outcome.{Op}
 use Rattle.stores.specs.Steps.{Attempt}
 use Rattle.evaluation.specs.Meaning.{Denotes}
-use Rattle.rules.specs.declared.fault.RuleFault.{RuleFault}
-use Rattle.rules.specs.declared.fault.RuleFault.the-variants.{Names}
+use Rattle.rulelines.specs.declared.fault.RuleFault.{RuleFault}
+use Rattle.rulelines.specs.declared.fault.RuleFault.the-variants.{Names}
 use Rattle.rules.specs.Turns.{seen}
 use Rattle.lines.specs.Lines.{Line}
 use Rattle.names.specs.Names.{texts, distinct}

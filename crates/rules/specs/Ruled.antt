@@ -26,11 +26,11 @@ use Rattle.text.specs.Tokens.{Bytes}
 use Rattle.expressions.specs.Grammar.{Expr, never, always, named, neg, conj, disj}
 use Rattle.expressions.specs.Conditions.{conditionAt, onlyName, nothingAt}
 use Rattle.evaluation.specs.Worked.{worked}
-use Rattle.rules.specs.declared.kind.LineKind.{LineKind}
-use Rattle.rules.specs.declared.kind.LineKind.the-variants.{Blank, Switch, Rule, Begin, Foreign}
+use Rattle.rulelines.specs.declared.kind.LineKind.{LineKind}
+use Rattle.rulelines.specs.declared.kind.LineKind.the-variants.{Blank, Switch, Rule, Begin, Foreign}
 use Rattle.expressions.specs.Placed.{readIn, unless}
-use Rattle.rules.specs.Faults.{declarations}
-use Rattle.rules.specs.Kinds.{kindOf, nextLine}
+use Rattle.rulelines.specs.Faults.{declarations}
+use Rattle.rulelines.specs.Kinds.{kindOf, nextLine}
 
 abbrev pub Looked : Type 0
 Looked = Bytes → Option ℕ

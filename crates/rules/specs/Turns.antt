@@ -22,12 +22,12 @@ use Rattle.stores.specs.declared.fault.StoreFault.{StoreFault}
 use Rattle.names.specs.Names.{indexOf}
 use Rattle.text.specs.Tokens.{Bytes}
 use Rattle.expressions.specs.Conditions.{Item, false-item, true-item, not-item, and-item, or-item, name-item}
-use Rattle.rules.specs.declared.fault.RuleFault.{RuleFault}
-use Rattle.rules.specs.declared.fault.RuleFault.the-variants.{Store, Expression}
+use Rattle.rulelines.specs.declared.fault.RuleFault.{RuleFault}
+use Rattle.rulelines.specs.declared.fault.RuleFault.the-variants.{Store, Expression}
 use Rattle.rules.specs.declared.reading.Turn.{Turn}
 use Rattle.rules.specs.declared.reading.Turn.the-variants.{Next, Last}
 use Rattle.expressions.specs.declared.fault.ExpressionFault.the-variants.{LineTooLong}
-use Rattle.rules.specs.Faults.{described, declarations}
+use Rattle.rulelines.specs.Faults.{described, declarations}
 use Rattle.rules.specs.Ruled.{Answer}
 
 abbrev pub blamedOn : {A : Type 0} → ℕ → Result A StoreFault → Result A RuleFault

@@ -1,7 +1,4 @@
-// Rule lines: the switches of a product family, and the rules that allow some of their configurations.
-// May use every crate below it but no one store. Promises: the names declared, the allowed configurations, and every refusal with its place.
-pub mod declaration;
+// Rules over any store: which configurations of a product family's switches they allow.
+// May use every crate below it but no one store. Promises: the allowed configurations, and every refusal with its place.
 mod entries;
-pub mod fault;
-mod kind;
 pub mod reading;

@@ -11,7 +11,7 @@ use Rattle.bitmaps.specs.Meaning.{everything}
 use Rattle.lines.specs.Lines.{linesOf}
 use Rattle.names.specs.Names.{texts}
 use Rattle.rules.specs.Allowed.{allowedBy}
-use Rattle.rules.specs.Declarations.{declaredOf}
+use Rattle.rulelines.specs.Declarations.{declaredOf}
 use Rattle.rules.proofs.Rules.{length-texts}
 use mathlib.Core.Logic.{inl, inr}
 use Rattle.std.specs.Vec.{refused}

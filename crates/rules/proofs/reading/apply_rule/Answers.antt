@@ -11,7 +11,7 @@ use Rattle.expressions.specs.Placed.{readIn}
 use Rattle.evaluation.specs.Worked.{stepsOf}
 use Rattle.rules.specs.Read.{names, lookup}
 use Rattle.rules.specs.Turns.{allKnown}
-use Rattle.rules.proofs.Parsed.{condition-read}
+use Rattle.rulelines.proofs.Parsed.{condition-read}
 use Rattle.rules.proofs.Known.{known-read, steps-read}
 use Rattle.rules.proofs.Applied.{unread, undeclared, unworked, met}
 use Rattle.rules.proofs.reading.apply_rule.Needs as need

@@ -10,9 +10,9 @@ use Rattle.stores.specs.Steps.{Runs}
 use Rattle.stores.proofs.Models.{advanced-trans}
 use Rattle.lines.specs.Lines.{linesOf}
 use Rattle.names.specs.Names.{texts}
-use Rattle.rules.specs.declared.fault.RuleFault.{RuleFault}
+use Rattle.rulelines.specs.declared.fault.RuleFault.{RuleFault}
 use Rattle.rules.specs.declared.reading.Rules.{Rules}
-use Rattle.rules.specs.Faults.{described}
+use Rattle.rulelines.specs.Faults.{described}
 use Rattle.rules.specs.Read.{answerOf}
 use Rattle.rules.specs.Ruled.{entryOf, ruling, ruled}
 use Rattle.rules.specs.Turns.{seen}

@@ -3,10 +3,10 @@ use mathlib.Core.Bool.{false}
 use Rattle.std.specs.declared.result.Result.the-variants.{Ok, Err}
 use Rattle.text.specs.Tokens.{tokensAt}
 use Rattle.expressions.specs.Conditions.{onlyName, nothingAt}
-use Rattle.rules.proofs.Parsed.{name-read, nothing-read}
+use Rattle.rulelines.proofs.Parsed.{name-read, nothing-read}
 use Rattle.std.proofs.shelf.Results.{err-from-errBy}
 use Rattle.stores.proofs.Models.{advanced-none}
-use Rattle.rules.specs.Kinds.{kindOf}
+use Rattle.rulelines.specs.Kinds.{kindOf}
 use Rattle.rules.specs.Read.{names, lookup}
 use Rattle.rules.proofs.Lined.{blank, rule-refused, rule-read, begin-refused, begin-read, switch-refused, switch-late, foreign-line}
 use Rattle.rules.proofs.reading.read_line.Needs as need

@@ -8,15 +8,16 @@ use Rattle.std.proofs.shelf.Results.{err-from-errBy}
 use Rattle.stores.specs.Steps.{Runs}
 use Rattle.stores.proofs.Models.{advanced-none, advanced-trans}
 use Rattle.lines.specs.Lines.{linesOf}
-use Rattle.rules.specs.declared.fault.RuleFault.{RuleFault}
+use Rattle.rulelines.specs.declared.fault.RuleFault.{RuleFault}
 use Rattle.rules.specs.declared.reading.Rules.{Rules}
 use Rattle.rules.specs.declared.reading.Turn.{Turn}
 use Rattle.rules.specs.declared.reading.Turn.the-variants.{Next, Last}
-use Rattle.rules.specs.Kinds.{kindOf}
+use Rattle.rulelines.specs.Kinds.{kindOf}
 use Rattle.rules.specs.Read.{names, lookup, lined, answerOf}
 use Rattle.rules.specs.Ruled.{ruling}
 use Rattle.rules.specs.Turns.{seen}
-use Rattle.rules.proofs.Loop.{goes-start, goes-more, goes-last, goes-refused, goes-end, not-empty, is-empty, turned-by}
+use Rattle.rules.proofs.Loop.{goes-start, goes-more, goes-last, goes-refused, goes-end, turned-by}
+use Rattle.rulelines.proofs.Empty.{not-empty, is-empty}
 use Rattle.rules.proofs.reading.read_lines.Needs as need
 
 pub loop-rest-holds : need.loop-rest-holds

@@ -11,7 +11,7 @@ use Rattle.stores.proofs.Models.{advanced-none, extends-same, release-restores}
 use Rattle.lines.specs.Lines.{linesOf}
 use Rattle.names.specs.Names.{texts, distinct}
 use Rattle.evaluation.specs.Meaning.{Denotes}
-use Rattle.rules.specs.declared.fault.RuleFault.the-variants.{Names}
+use Rattle.rulelines.specs.declared.fault.RuleFault.the-variants.{Names}
 use Rattle.rules.specs.Allowed.{allowedBy}
 use Rattle.rules.specs.Read.{answerOf}
 use Rattle.rules.specs.Ruled.{ruled}

@@ -9,7 +9,7 @@ use Rattle.std.proofs.shelf.Results.{err-from-errBy}
 use Rattle.stores.specs.Outcome.{switch}
 use Rattle.stores.specs.Steps.{Runs, done}
 use Rattle.stores.proofs.Models.{advanced-none, advanced-op, advanced-trans}
-use Rattle.rules.specs.declared.fault.RuleFault.{RuleFault}
+use Rattle.rulelines.specs.declared.fault.RuleFault.{RuleFault}
 use Rattle.rules.specs.Ruled.{switching}
 use Rattle.rules.specs.Turns.{seen}
 use Rattle.rules.proofs.Switching.{goes-start, goes-more, goes-refused, goes-end}

@@ -6,8 +6,8 @@ use Rattle.faults.specs.declared.Refusal.{Refusal}
 use Rattle.faults.specs.declared.Layer.the-variants.{Rules}
 use Rattle.stores.specs.Faults.{described as store}
 use Rattle.expressions.specs.Faults.{described as expression}
-use Rattle.rules.specs.declared.fault.RuleFault.{RuleFault}
-use Rattle.rules.specs.declared.fault.RuleFault.the-variants.{Store, Expression, Misplaced, DeclaredTwice, Undeclared, Names, NoBegin}
+use Rattle.rulelines.specs.declared.fault.RuleFault.{RuleFault}
+use Rattle.rulelines.specs.declared.fault.RuleFault.the-variants.{Store, Expression, Misplaced, DeclaredTwice, Undeclared, Names, NoBegin}
 
 abbrev pub declarations : ℕ → Refusal
 declarations l = record { number = 23; layer = Rules; line = l; byte = 0 }

@@ -2,7 +2,7 @@ use mathlib.Core.Path.{_≡_, ap, _∙_}
 use Prim.Native.Nat.{ℕ, _-_, _≤_}
 use native.Mathlib.Omega.{arith}
 use lib.ListN.{length, take, drop, length-drop, length-take}
-use Rattle.rules.proofs.kind.kind_of.Needs as need
+use Rattle.rulelines.proofs.kind.kind_of.Needs as need
 
 -- a word lies within its line
 pub by-word-requires : need.by-word-requires

@@ -8,8 +8,8 @@ use lib.Chars.{codes}
 use lib.ListN.{length}
 use Rattle.std.specs.shelf.Text.{sameBytes}
 use Rattle.text.specs.Tokens.{Bytes, Tok, nought, unit, defined, not, and, or, opened, closed, name, other, Placed, tokensAt}
-use Rattle.rules.specs.declared.kind.LineKind.{LineKind}
-use Rattle.rules.specs.declared.kind.LineKind.the-variants.{Blank, Switch, Rule, Begin, Foreign}
+use Rattle.rulelines.specs.declared.kind.LineKind.{LineKind}
+use Rattle.rulelines.specs.declared.kind.LineKind.the-variants.{Blank, Switch, Rule, Begin, Foreign}
 
 abbrev pub byWord : Bytes → ℕ → LineKind
 byWord x behind =

@@ -2,7 +2,7 @@
 ghost use mathlib.Core.Path.{_≡_};
 ghost use Prim.Native.Nat.{ℕ, _+_, _-_, _<_, _≤_, _^_};
 ghost use lib.ListN.{length};
-ghost use Rattle.rules.specs.Kinds.{kindOf, byWord};
+ghost use Rattle.rulelines.specs.Kinds.{kindOf, byWord};
 use text::Part;
 use text::Token;
 use text::Tokens;

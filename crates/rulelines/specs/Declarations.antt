@@ -11,12 +11,12 @@ use Rattle.std.specs.declared.result.Result.the-variants.{Ok, Err}
 use Rattle.faults.specs.declared.Refusal.{Refusal}
 use Rattle.names.specs.Names.{texts}
 use Rattle.text.specs.Tokens.{Bytes}
-use Rattle.rules.specs.declared.fault.RuleFault.{RuleFault}
-use Rattle.rules.specs.declared.declaration.Declarations.{Declarations}
-use Rattle.rules.specs.declared.declaration.DeclarationFault.{DeclarationFault}
-use Rattle.rules.specs.declared.declaration.DeclarationFault.the-variants.{Rules, OutOfMemory}
-use Rattle.rules.specs.Faults.{described}
-use Rattle.rules.specs.Declaring.{Declared, named, declaredIn}
+use Rattle.rulelines.specs.declared.fault.RuleFault.{RuleFault}
+use Rattle.rulelines.specs.declared.declaration.Declarations.{Declarations}
+use Rattle.rulelines.specs.declared.declaration.DeclarationFault.{DeclarationFault}
+use Rattle.rulelines.specs.declared.declaration.DeclarationFault.the-variants.{Rules, OutOfMemory}
+use Rattle.rulelines.specs.Faults.{described}
+use Rattle.rulelines.specs.Declaring.{Declared, named, declaredIn}
 
 abbrev pub NameOutcome : List Bytes → ℕ → Result Bytes Refusal → Result (RefT Bytes) RuleFault → Type 0
 NameOutcome names l z (Ok x) = (next : List Bytes → Result Declared Refusal) → named names l next z ≡ next (names ++ x .now ∷ [])

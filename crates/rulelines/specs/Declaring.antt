@@ -13,11 +13,11 @@ use Rattle.lines.specs.Lines.{Line, linesOf}
 use Rattle.names.specs.Names.{fresh}
 use Rattle.text.specs.Tokens.{Bytes}
 use Rattle.expressions.specs.Conditions.{onlyName}
-use Rattle.rules.specs.declared.kind.LineKind.{LineKind}
-use Rattle.rules.specs.declared.kind.LineKind.the-variants.{Blank, Switch, Rule, Begin, Foreign}
+use Rattle.rulelines.specs.declared.kind.LineKind.{LineKind}
+use Rattle.rulelines.specs.declared.kind.LineKind.the-variants.{Blank, Switch, Rule, Begin, Foreign}
 use Rattle.expressions.specs.Placed.{readIn}
-use Rattle.rules.specs.Faults.{declarations}
-use Rattle.rules.specs.Kinds.{kindOf, nextLine}
+use Rattle.rulelines.specs.Faults.{declarations}
+use Rattle.rulelines.specs.Kinds.{kindOf, nextLine}
 
 pub record Declared : Type 0 where
   pub names : List Bytes

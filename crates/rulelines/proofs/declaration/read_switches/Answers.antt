@@ -5,12 +5,12 @@ use Rattle.std.specs.declared.result.Result.{Result}
 use Rattle.std.specs.declared.result.Result.the-variants.{Err}
 use Rattle.std.proofs.shelf.Results.{err-from-errBy}
 use Rattle.names.specs.Names.{texts}
-use Rattle.rules.specs.declared.declaration.Declarations.{Declarations}
-use Rattle.rules.specs.declared.declaration.DeclarationFault.{DeclarationFault}
-use Rattle.rules.specs.Declarations.{DeclarationsOutcome}
-use Rattle.rules.proofs.Loop.{not-empty, is-empty}
-use Rattle.rules.proofs.Naming.{blank-turn, switch-turn, declared-end, texts-more}
-use Rattle.rules.proofs.declaration.read_switches.Needs as need
+use Rattle.rulelines.specs.declared.declaration.Declarations.{Declarations}
+use Rattle.rulelines.specs.declared.declaration.DeclarationFault.{DeclarationFault}
+use Rattle.rulelines.specs.Declarations.{DeclarationsOutcome}
+use Rattle.rulelines.proofs.Empty.{not-empty, is-empty}
+use Rattle.rulelines.proofs.Naming.{blank-turn, switch-turn, declared-end, texts-more}
+use Rattle.rulelines.proofs.declaration.read_switches.Needs as need
 
 pub returns-in-Break-push : need.returns-in-Break-push
 returns-in-Break-push c =

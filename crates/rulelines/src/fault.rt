@@ -1,7 +1,7 @@
 // Why rule lines are refused.
 ghost use mathlib.Core.Path.{_≡_};
-ghost use Rattle.rules.specs.Faults.{described};
-ghost use Rattle.rules.specs.declared.fault.RuleFault.the-variants.{Expression};
+ghost use Rattle.rulelines.specs.Faults.{described};
+ghost use Rattle.rulelines.specs.declared.fault.RuleFault.the-variants.{Expression};
 use expressions::fault::ExpressionFault;
 use expressions::fault::ExpressionFaultDebug;
 use expressions::fault::ExpressionFaultEq;

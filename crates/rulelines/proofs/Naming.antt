@@ -15,10 +15,10 @@ use Rattle.names.proofs.Turns.{texts-append}
 use Rattle.text.specs.Tokens.{Bytes}
 use Rattle.expressions.specs.Conditions.{onlyName}
 use Rattle.expressions.specs.Placed.{readIn}
-use Rattle.rules.specs.declared.kind.LineKind.{LineKind}
-use Rattle.rules.specs.declared.kind.LineKind.the-variants.{Blank, Switch}
-use Rattle.rules.specs.Kinds.{kindOf, nextLine}
-use Rattle.rules.specs.Declaring.{Declared, named, byKind, declared}
+use Rattle.rulelines.specs.declared.kind.LineKind.{LineKind}
+use Rattle.rulelines.specs.declared.kind.LineKind.the-variants.{Blank, Switch}
+use Rattle.rulelines.specs.Kinds.{kindOf, nextLine}
+use Rattle.rulelines.specs.Declaring.{Declared, named, byKind, declared}
 
 module _ (names : List Bytes) (l l′ : ℕ) (rest line behind : Bytes) (first : FirstLine rest) (is-line : line ≡ untilFeed rest) (is-behind : behind ≡ pastFeed rest) (is-next : l′ ≡ nextLine l) where
   -- the first line of what is left

@@ -1,0 +1,3 @@
+pub mod Empty
+pub mod Parsed
+pub mod Naming
