@@ -1,3 +1,5 @@
 // What bitmap stores should do on examples.
+#![tactic(auto)]
+
 #[cfg(test)]
 mod tests;

@@ -1,5 +1,7 @@
 // Bitmap stores: each set has one bit for every configuration, in words that are handed in. May use `faults` and `stores`.
 // Promises: all that a store promises, and every word after making, an operation, a refusal and a release.
+#![tactic(auto)]
+
 ghost use Rattle.std.specs.Prelude.{◌<◌};
 ghost use Rattle.bitmaps.specs.Meaning.{means, Valid, one};
 ghost use Rattle.bitmaps.specs.Making.{Prepared};

@@ -1,5 +1,7 @@
 // What a line of a C source is, by itself. Uses the tokens and conditions of the crates below it, the scanner, the directives and the lines of `sources`.
 // Promises: of every line the directive with its condition or name, or that it is plain, or the refusal with its number and place.
+#![tactic(auto)]
+
 ghost use Rattle.std.specs.Prelude.{◌≡◌, cond, ◌&&◌, ◌||◌, [], ◌∷◌, length, if◌then◌else◌, None};
 ghost use Rattle.expressions.specs.declared.condition.Step.TheVariants.{Defined};
 ghost use Rattle.expressions.specs.Conditions.{item_at, not-item};

@@ -1,6 +1,8 @@
 // Chains of conditionals, their blocks, and the names of a source: what the lines read so far leave open, and the refusals 17 to 21.
 // Uses the lines of `sources` and the look-up of `names`.
 // Promises: behind every line the open chains, the number of blocks and the names with an entry, or the line's refusal, and then nothing is changed.
+#![tactic(auto)]
+
 ghost use Rattle.std.specs.Prelude.{◌≡◌, ◌≤◌, true, not, ◌&&◌, length, Ok};
 ghost use Rattle.names.specs.Names.{texts};
 ghost use Rattle.sources.specs.Classified.{Line as SourceLine};

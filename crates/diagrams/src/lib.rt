@@ -1,6 +1,8 @@
 // Diagram stores: each set is a cell of one reduced ordered binary decision diagram, in words that are handed in.
 // May use `faults`, `stores`, `cells` and `operations`. Promises: all that a store promises, every word after making, an operation, a refusal and
 // a release, and that two numbers are equal exactly when their sets are.
+#![tactic(auto)]
+
 ghost use Rattle.cells.specs.Words.{Valid, Prepared};
 ghost use Rattle.diagrams.specs.Meaning.{means, lacking};
 ghost use Rattle.diagrams.specs.Stores.{rollback, Made, Canonical, Reachable};

@@ -3,6 +3,8 @@
 // stands first, or alone, outside blanks and block comments, and whether its last byte outside blanks is a backslash.
 //
 // A line comes with its line feed as its last byte, if it has one. There it is left aside as a blank is.
+#![tactic(auto)]
+
 ghost use Rattle.std.specs.Prelude.{◌≡◌, false, ◌∷◌, drop, Some, Decides, MatchOption, ◌==◌};
 ghost use Rattle.directives.specs.Gaps.{front};
 ghost use Rattle.directives.specs.Directives.{past, hash, alone, named, found_in, conditional, final};

@@ -1,5 +1,7 @@
 // Working a condition out over any store. May use `stores`, `text` and `expressions`.
 // Promises: the operations asked and their order, the first refusal among them, and the set that the answer holds.
+#![tactic(auto)]
+
 ghost use Rattle.std.specs.Prelude.{◌≡◌, ℕ, ◌+◌, ◌-◌, ◌<◌, ◌≤◌, List, [], length, IfOk, Option};
 ghost use Rattle.stores.specs.Outcome.{Advanced};
 ghost use Rattle.stores.specs.Steps.{Runs};

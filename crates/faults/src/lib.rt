@@ -1,4 +1,6 @@
 // What every refusal says, whatever layer it comes from. Uses nothing; every other crate may use it.
+#![tactic(auto)]
+
 ghost use Rattle.std.specs.Prelude.{Some};
 ghost use Rattle.faults.specs.Shown.{layer_text, refusal_text};
 

@@ -1,5 +1,7 @@
 // Judging a whole rule text: how each switch stands under the rules, and the lowest allowed configuration. May use every crate below it.
 // Promises: what is answered is true of exactly the configurations that the rules allow.
+#![tactic(auto)]
+
 ghost use Rattle.std.specs.Prelude.{◌≡◌, ℕ, ◌<◌, IfOk, IfErr};
 ghost use Rattle.lines.specs.Lines.{lines_of};
 ghost use Rattle.names.specs.Names.{texts};

@@ -1,5 +1,7 @@
 // Rule layers: a store seen through rules is itself a store, so layers pile.
 // May use `faults` and `stores`. Promises: over every store, what making a layer asks, answers and refuses, and of the layer all that a store promises.
+#![tactic(auto)]
+
 ghost use Rattle.std.specs.Prelude.{◌≡◌, ◌^◌};
 ghost use Rattle.layers.specs.Layered.{Fits, LayerValid, layer_model, layer_need, layer_rollback};
 ghost use Rattle.layers.specs.Making.{MakeAttempts, Makes};

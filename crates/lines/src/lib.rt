@@ -1,5 +1,7 @@
 // Lines of a text, taken off its front one by one. Uses nothing.
 // Promises: which bytes a line has, and what stands behind it.
+#![tactic(auto)]
+
 ghost use Rattle.std.specs.Prelude.{◌≡◌, ℕ, ◌<◌, length};
 ghost use Rattle.lines.specs.Lines.{until_feed, past_feed, Divided, FirstLine};
 

@@ -1,4 +1,6 @@
 // Lists of names, each a part of a text: finding one, and whether two are alike. May use `text`.
+#![tactic(auto)]
+
 ghost use Rattle.std.specs.Prelude.{◌≡◌};
 ghost use Rattle.names.specs.Names.{texts, index_of, distinct};
 

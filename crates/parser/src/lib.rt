@@ -1,6 +1,8 @@
 // Reading a condition from a line. Uses the tokens of `text`, and the grammar, the steps and the faults of `expressions`.
 // Promises: a condition is read exactly where the grammar derives one, with its steps, and a fault has the number and the place of the first token that
 // cannot go on.
+#![tactic(auto)]
+
 ghost use Rattle.std.specs.Prelude.{◌≡◌, ◌<◌, ◌≤◌, length, Err};
 ghost use Rattle.text.specs.Tokens.{tokens_at};
 ghost use Rattle.expressions.specs.declared.fault.ExpressionFault.TheVariants.{LineTooLong};

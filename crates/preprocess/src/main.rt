@@ -1,5 +1,7 @@
 // Writes what one configuration keeps of the C source on standard input. `-DNAME` declares a switch that is on, `-UNAME` one that is off. A source that is
 // refused gets the one line of its refusal, and status 1.
+#![tactic(auto)]
+
 use anyhow::anyhow;
 use expressions::line::only_name;
 use preprocessing::fault::PreprocessingFault;

@@ -1,5 +1,7 @@
 // What one configuration keeps of a source. May use every crate below it.
 // Promises: the output is the plain preprocessor's, byte for byte, or the refusal is the first one due.
+#![tactic(auto)]
+
 ghost use Rattle.std.specs.Prelude.{◌≡◌, ◌≤◌, length};
 ghost use Rattle.names.specs.Names.{texts};
 ghost use Rattle.preprocessing.specs.Outcome.{Preprocesses};

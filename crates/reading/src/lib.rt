@@ -1,5 +1,7 @@
 // Reading the lines of a source one by one, for whatever is done with them: what each line is, and its refusal among 9 to 21. Uses `sources` and `conditionals`.
 // Promises: the line and the shape behind it are those of the definition, or the refusal is, and then the shape is as it was.
+#![tactic(auto)]
+
 ghost use Rattle.reading.specs.Lines.{LineOutcome};
 
 use classification::{Place, classify};

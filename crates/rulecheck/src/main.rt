@@ -1,5 +1,7 @@
 // Judges the rule lines on standard input. For every switch in order it prints whether the rules leave it free, force it on or force it off,
 // then the lowest allowed configuration; or the one line of a refusal, with status 1.
+#![tactic(auto)]
+
 use anyhow::anyhow;
 use judging::fault::JudgingFault;
 use judging::judge;

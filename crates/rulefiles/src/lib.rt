@@ -1,5 +1,7 @@
 // Judging a whole rule file over a diagram store: how each switch stands under the rules, and the lowest allowed configuration. May use every crate below it.
 // Promises: what is answered is true of exactly the configurations that the rules allow, and which refusal comes.
+#![tactic(auto)]
+
 ghost use Rattle.std.specs.Prelude.{◌≡◌, IfOk, IfErr};
 ghost use Rattle.rulefiles.specs.Judgements.{JudgedText};
 ghost use Rattle.rulefiles.specs.Refused.{TextRefused};

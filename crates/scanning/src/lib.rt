@@ -1,5 +1,7 @@
 // Scanning a C source: code, comments, strings and character literals, told apart byte by byte. Uses nothing.
 // Promises: the mode behind every byte, and of every line whether it leaves a block comment open, as the law of comments and literals says.
+#![tactic(auto)]
+
 ghost use Rattle.std.specs.Prelude.{◌≡◌, Bool};
 ghost use Rattle.scanning.specs.Modes.{begun, step, steps, open_in, open_after};
 ghost use Rattle.scanning.specs.Pieces.{Scanned};

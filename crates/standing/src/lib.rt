@@ -1,4 +1,6 @@
 // Whether the allowed configurations of a store leave a switch free. May use `stores`.
+#![tactic(auto)]
+
 ghost use Rattle.std.specs.Prelude.{◌≡◌, ℕ, ◌<◌, IfOk};
 ghost use Rattle.stores.specs.Model.{set_at};
 ghost use Rattle.stores.specs.Outcome.{Advanced};

@@ -1,5 +1,7 @@
 // Condition stores: numbered sets of configurations under one contract, so that everything above is written and proved once.
 // May use `faults`. Promises: what each operation answers, refuses and leaves in memory, for every implementation alike.
+#![tactic(auto)]
+
 ghost use Rattle.std.specs.Prelude.{◌≡◌, ℕ, ◌^◌, ◌<◌, ◌≤◌};
 ghost use Rattle.stores.specs.Sets.{empty};
 ghost use Rattle.stores.specs.Model.{Model, Consistent, size, set_at};

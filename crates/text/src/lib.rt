@@ -1,5 +1,7 @@
 // The bytes of a line: their classes, and the tokens that they make. Uses nothing.
 // Promises: the class of every byte, and of every line its tokens in order, each with its place.
+#![tactic(auto)]
+
 ghost use Rattle.std.specs.Prelude.{◌≡◌};
 ghost use Rattle.text.specs.Classes.{class_of};
 

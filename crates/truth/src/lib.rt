@@ -1,5 +1,7 @@
 // The truth value of a condition, where flags tell which names are defined. May use `text`, `names`, `expressions` and `sources`.
 // Promises: the value of the expression whose steps the condition has; a name without an entry is not defined.
+#![tactic(auto)]
+
 ghost use Rattle.std.specs.Prelude.{◌≡◌, ◌≤◌, [], length};
 ghost use Rattle.names.specs.Names.{texts};
 ghost use Rattle.expressions.specs.Grammar.{Expr};

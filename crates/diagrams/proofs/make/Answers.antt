@@ -5,12 +5,12 @@ use Rattle.diagrams.proofs.make.Goals as goal
 
 pub returns : goal.returns
 returns c =
-    let p = c.in-ok-prepare.ensures in
+    let p = c.in_ok-prepare.ensures in
     record {
       made = made_new c.args.words.now c.args.n _ p.0 (omega (arith, c.prepare.auto.words)) p.1;
       canonical = canonical_numbers;
       reachable = added_reachable;
     }
 
-pub returns-in-err-prepare : goal.returns-in-err-prepare
-returns-in-err-prepare c = record { made = search rules; canonical = canonical_numbers; reachable = added_reachable }
+pub returns-in_err-prepare : goal.returns-in_err-prepare
+returns-in_err-prepare c = record { made = search rules; canonical = canonical_numbers; reachable = added_reachable }

@@ -7,8 +7,8 @@ use Rattle.directives.proofs.begins_with_hash.Goals as goal
 
 pub returns : goal.returns
 returns c =
-    let k = c.args.in-comment in
+    let k = c.args.in_comment in
     let l = c.args.line.now in
-    let v : c.is-some.result ≡ hash (front k l) =
-    c.is-some.ensures ∙ hash_some c.front-of.result.now c.after-hash.result c.after-hash.ensures ∙ ap hash c.front-of.ensures in
+    let v : c.is_some.result ≡ hash (front k l) =
+    c.is_some.ensures ∙ hash_some c.front_of.result.now c.after_hash.result c.after_hash.ensures ∙ ap hash c.front_of.ensures in
     record { value = v; law = Decides-at _ _ v (hash_first k l) }

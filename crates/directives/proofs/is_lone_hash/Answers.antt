@@ -7,16 +7,16 @@ use Rattle.directives.proofs.is_lone_hash.Goals as goal
 
 pub returns-in-Some : goal.returns-in-Some
 returns-in-Some c =
-    let k = c.args.in-comment in
+    let k = c.args.in_comment in
     let l = c.args.line.now in
-    let v : c.is-empty.result ≡ alone (front k l) =
-    c.is-empty.ensures ∙ alone_by c.front-of.result.now c.in-Some.tail.now c.after-gap.result.now c.in-Some.ensures c.after-gap.ensures.value
-    ∙ ap alone c.front-of.ensures in
+    let v : c.is_empty.result ≡ alone (front k l) =
+    c.is_empty.ensures ∙ alone_by c.front_of.result.now c.in-Some.tail.now c.after_gap.result.now c.in-Some.ensures c.after_gap.ensures.value
+    ∙ ap alone c.front_of.ensures in
     record { value = v; law = Decides-at _ _ v (lone_hash k l) }
 
 pub returns-in-None : goal.returns-in-None
 returns-in-None c =
-    let k = c.args.in-comment in
+    let k = c.args.in_comment in
     let l = c.args.line.now in
-    let v : false ≡ alone (front k l) = sym (alone_none c.front-of.result.now c.in-None.ensures) ∙ ap alone c.front-of.ensures in
+    let v : false ≡ alone (front k l) = sym (alone_none c.front_of.result.now c.in-None.ensures) ∙ ap alone c.front_of.ensures in
     record { value = v; law = Decides-at _ _ v (lone_hash k l) }

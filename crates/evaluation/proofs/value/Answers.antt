@@ -39,7 +39,7 @@ returns-in-Defined g c =
     let st : List ℕ = stacked c.args.stack.now.values c.args.stack.now.len in
     record {
       advanced = advanced_none s.rollback_laws c.requires;
-      runs = runs_at s.model s.rollback s.need c.args.line.now (g.E.Entries.lookup c.args.entries.now) k.none k.top st c.args.store.now c.args.store.now _ c.in-Defined.is (ap Ok (entry_default (g.E.Entries.lookup c.args.entries.now) c.get.result c.name-at.result.now _ k.none c.unwrap-or.result c.unwrap-or.ensures c.get.ensures c.name-at.ensures), refl);
+      runs = runs_at s.model s.rollback s.need c.args.line.now (g.E.Entries.lookup c.args.entries.now) k.none k.top st c.args.store.now c.args.store.now _ c.in-Defined.is (ap Ok (entry_default (g.E.Entries.lookup c.args.entries.now) c.get.result c.name_at.result.now _ k.none c.unwrap_or.result c.unwrap_or.ensures c.get.ensures c.name_at.ensures), refl);
       popped = popped_at c.args.line.now st st c.in-Defined.is refl;
       len = omega arith;
     }

@@ -6,8 +6,8 @@ use Rattle.evaluation.specs.Worked.{steps_of}
 use Rattle.evaluation.proofs.Values.{machine_runs, worked_made}
 use Rattle.evaluation.proofs.work_out.Goals as goal
 
-pub work-steps-requires : goal.work-steps-requires
-work-steps-requires g c = (c.requires, c.steps.ensures.bound)
+pub work_steps-requires : goal.work_steps-requires
+work_steps-requires g c = (c.requires, c.steps.ensures.bound)
 
 pub returns : goal.returns
 returns g c =
@@ -15,12 +15,12 @@ returns g c =
     let k = c.args.known in
     let look = g.E.Entries.lookup c.args.entries.now in
     let entry = c.args.store.now in
-    let exit = c.work-steps.new.store in
+    let exit = c.work_steps.new.store in
     let is : items c.line.result.now c.steps.result.now ≡ steps_of c.args.condition.now =
     ap₂ (λ (l : List ℕ) (ss : List Step). items l ss) c.line.ensures c.steps.ensures.value in
-    let runs = λ (e : Expr) (q : steps_of c.args.condition.now ≡ postfix e). machine_runs s.model s.rollback s.need look k.none k.top (items c.line.result.now c.steps.result.now) e entry exit c.work-steps.result (is ∙ q) c.work-steps.ensures.runs in
+    let runs = λ (e : Expr) (q : steps_of c.args.condition.now ≡ postfix e). machine_runs s.model s.rollback s.need look k.none k.top (items c.line.result.now c.steps.result.now) e entry exit c.work_steps.result (is ∙ q) c.work_steps.ensures.runs in
     record {
-      advanced = c.work-steps.ensures.advanced;
+      advanced = c.work_steps.ensures.advanced;
       runs = runs;
-      means = λ e q zn tp. worked_made s.model s.rollback s.need look k.none k.top e entry exit c.work-steps.result zn tp (runs e q);
+      means = λ e q zn tp. worked_made s.model s.rollback s.need look k.none k.top e entry exit c.work_steps.result zn tp (runs e q);
     }

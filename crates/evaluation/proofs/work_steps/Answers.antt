@@ -21,12 +21,12 @@ loop-step-init g c =
 pub value-requires : goal.value-requires
 value-requires g c = c.loop-step.invariant.0.fine
 
-pub returns-in-err-number : goal.returns-in-err-number
-returns-in-err-number g c =
+pub returns-in_err-number : goal.returns-in_err-number
+returns-in_err-number g c =
     let s = g.S.Store in
     let k = c.args.known in
-    let e = c.in-err-number.ensures in
-    let p = err_from_is_err_and c.from-residual.result c.from-residual.ensures.1 in
+    let e = c.in_err-number.ensures in
+    let p = err_from_is_err_and c.from_residual.result c.from_residual.ensures.1 in
     let i = c.loop-step.step-index in
     let steps = c.args.steps.now in
     record {
@@ -41,13 +41,13 @@ pub loop-step-preserved : goal.loop-step-preserved
 loop-step-preserved g c =
     let s = g.S.Store in
     let k = c.args.known in
-    let e = c.in-ok-number.ensures in
+    let e = c.in_ok-number.ensures in
     let i = c.loop-step.step-index in
     let steps = c.args.steps.now in (
       advanced_trans s.rollback_laws c.loop-step.invariant.0 e.advanced,
       omega (arith, c.push.ensures.len, e.len, c.loop-step.invariant.1),
       goes_more s.model s.rollback s.need c.args.line.now steps (g.E.Entries.lookup c.args.entries.now) k.none k.top c.args.store.now
-          (get_or steps i Never) c.loop-step.store c.value.new.store i c.in-ok-number.number (stacked c.loop-step.stack.values c.loop-step.stack.len) (stacked c.value.new.stack.values c.value.new.stack.len) (stacked c.push.new.self.values c.push.new.self.len)
+          (get_or steps i Never) c.loop-step.store c.value.new.store i c.in_ok-number.number (stacked c.loop-step.stack.values c.loop-step.stack.len) (stacked c.value.new.stack.values c.value.new.stack.len) (stacked c.push.new.self.values c.push.new.self.len)
           c.loop-step.invariant.2 (drop_step steps i Never c.loop-step-test.true) e.runs e.popped (c.push.ensures.pushed (omega (arith, e.len, c.loop-step.invariant.1, c.requires.1, c.loop-step-test.true))),
     )
 

@@ -23,64 +23,64 @@ returns-in-Some g c =
     let s = g.S.Store in
     let a = c.args in
     let ns = texts a.names.now in
-    let read = c.in-ok-rules.ensures in
+    let read = c.in_ok-rules.ensures in
     let moved = read.advanced.grown.appended.same in
-    let m₁ = s.model c.read-rules.new.store in
+    let m₁ = s.model c.read_rules.new.store in
     let layer = c.in-Ok.layer in
     let mk = c.in-Ok.ensures.makes in
-    let seen = c.judge-switches.new.store in
+    let seen = c.judge_switches.new.store in
     let L : Set = (layer_model s.model layer).allowed in
     let L' : Set = (layer_model s.model seen).allowed in
     let sat : Set = λ k. satisfies (rules_in (lines_of a.text.now)) (defines ns k) in
     record {
-      judged = judged (allowed_by (s.model a.store).allowed ns (lines_of a.text.now)) L L' (set_at (layer_model s.model seen) c.top.result) (s.model a.store).n (layer_model s.model layer).n c.in-Some.lowest (vec_items c.in-ok-standings.standings) c.in-ok-lowest.field-0
-          (layer_allows (s.model a.store).allowed m₁.allowed (set_at m₁ c.in-ok-rules.rules.allowed) L sat moved.allowed read.allowed.is mk.allowed)
+      judged = judged (allowed_by (s.model a.store).allowed ns (lines_of a.text.now)) L L' (set_at (layer_model s.model seen) c.top.result) (s.model a.store).n (layer_model s.model layer).n c.in-Some.lowest (vec_items c.in_ok-standings.standings) c.in_ok-lowest.field-0
+          (layer_allows (s.model a.store).allowed m₁.allowed (set_at m₁ c.in_ok-rules.rules.allowed) L sat moved.allowed read.allowed.is mk.allowed)
           (mk.n ∙ moved.n)
-          (ap (λ (l : _). (layer_model s.model l).allowed) c.in-ok-standings.ensures.same)
-          c.top.ensures.1 c.in-ok-standings.ensures.stand c.in-ok-lowest.ensures.1 c.in-Some.is;
+          (ap (λ (l : _). (layer_model s.model l).allowed) c.in_ok-standings.ensures.same)
+          c.top.ensures.1 c.in_ok-standings.ensures.stand c.in_ok-lowest.ensures.1 c.in-Some.is;
       refused = tt;
     }
 
-pub returns-in-err-rules : goal.returns-in-err-rules
-returns-in-err-rules g c =
+pub returns-in_err-rules : goal.returns-in_err-rules
+returns-in_err-rules g c =
     let s = g.S.Store in
     let a = c.args in
-    let p = err_from_is_err_and c.from-residual.result c.from-residual.ensures.1 in
+    let p = err_from_is_err_and c.from_residual.result c.from_residual.ensures.1 in
     record {
-      judged = refused_made c.from-residual.result _ c.from-residual.ensures.0;
+      judged = refused_made c.from_residual.result _ c.from_residual.ensures.0;
       refused = subst (λ (r : Outcome). IfErr r (OverRefused s.model s.rollback s.need (texts a.names.now) a.lines a.text.now a.store)) (sym (p.1 ∙ ap Err p.2))
-          (c.read-rules.new.store, c.in-err-rules.ensures.outcome);
+          (c.read_rules.new.store, c.in_err-rules.ensures.outcome);
     }
 
 pub returns-in-Err : goal.returns-in-Err
 returns-in-Err g c =
     record {
       judged = tt;
-      refused = (c.read-rules.new.store, c.in-ok-rules.rules, c.in-Err.refused, c.in-ok-rules.ensures.outcome, c.in-Err.ensures.attempts, refl);
+      refused = (c.read_rules.new.store, c.in_ok-rules.rules, c.in-Err.refused, c.in_ok-rules.ensures.outcome, c.in-Err.ensures.attempts, refl);
     }
 
-pub returns-in-err-standings : goal.returns-in-err-standings
-returns-in-err-standings g c =
+pub returns-in_err-standings : goal.returns-in_err-standings
+returns-in_err-standings g c =
     let s = g.S.Store in
     let a = c.args in
-    let p = err_from_is_err_and c.from-residual-in-err-standings.result c.from-residual-in-err-standings.ensures.1 in
+    let p = err_from_is_err_and c.from_residual-in_err-standings.result c.from_residual-in_err-standings.ensures.1 in
     record {
-      judged = refused_made c.from-residual-in-err-standings.result _ c.from-residual-in-err-standings.ensures.0;
+      judged = refused_made c.from_residual-in_err-standings.result _ c.from_residual-in_err-standings.ensures.0;
       refused = subst (λ (r : Outcome). IfErr r (OverRefused s.model s.rollback s.need (texts a.names.now) a.lines a.text.now a.store)) (sym (p.1 ∙ ap Err p.2))
-          (over_switch s.model s.rollback s.need (texts a.names.now) a.lines a.text.now a.store c.read-rules.new.store c.in-ok-rules.rules c.in-Ok.layer c.in-err-standings.field-0.0
-          c.in-ok-rules.ensures.outcome c.in-Ok.ensures.attempts c.in-err-standings.ensures.refused);
+          (over_switch s.model s.rollback s.need (texts a.names.now) a.lines a.text.now a.store c.read_rules.new.store c.in_ok-rules.rules c.in-Ok.layer c.in_err-standings.field-0.0
+          c.in_ok-rules.ensures.outcome c.in-Ok.ensures.attempts c.in_err-standings.ensures.refused);
     }
 
-pub returns-in-err-lowest : goal.returns-in-err-lowest
-returns-in-err-lowest g c =
+pub returns-in_err-lowest : goal.returns-in_err-lowest
+returns-in_err-lowest g c =
     let s = g.S.Store in
-    let seen = c.judge-switches.new.store in
-    let v = subst (LayerValid s.valid s.model) (sym c.in-ok-standings.ensures.same) c.in-Ok.ensures.makes.fine in
-    absurd (never_refused (layer_model s.model seen) c.top.result c.in-err-lowest.field-0.0 (over_consistent (s.consistent seen.below v.0) v.1) c.top.ensures.0 c.in-err-lowest.ensures)
+    let seen = c.judge_switches.new.store in
+    let v = subst (LayerValid s.valid s.model) (sym c.in_ok-standings.ensures.same) c.in-Ok.ensures.makes.fine in
+    absurd (never_refused (layer_model s.model seen) c.top.result c.in_err-lowest.field-0.0 (over_consistent (s.consistent seen.below v.0) v.1) c.top.ensures.0 c.in_err-lowest.ensures)
 
 pub returns : goal.returns
 returns g c =
     let s = g.S.Store in
-    let seen = c.judge-switches.new.store in
-    let v = subst (LayerValid s.valid s.model) (sym c.in-ok-standings.ensures.same) c.in-Ok.ensures.makes.fine in
-    absurd (never_none (layer_model s.model seen) c.top.result c.in-ok-lowest.field-0 (over_consistent (s.consistent seen.below v.0) v.1) c.top.ensures.1 c.in-ok-lowest.ensures c.in-None.is)
+    let seen = c.judge_switches.new.store in
+    let v = subst (LayerValid s.valid s.model) (sym c.in_ok-standings.ensures.same) c.in-Ok.ensures.makes.fine in
+    absurd (never_none (layer_model s.model seen) c.top.result c.in_ok-lowest.field-0 (over_consistent (s.consistent seen.below v.0) v.1) c.top.ensures.1 c.in_ok-lowest.ensures c.in-None.is)

@@ -5,5 +5,5 @@ use Rattle.scanning.proofs.open_after.Goals as goal
 
 pub returns : goal.returns
 returns c =
-    let value : c.in-comment.result ≡ open_after c.args.in-comment c.args.line.now = search rules in
-    record { value = value; scanned = law c.args.in-comment c.args.line.now c.in-comment.result value; only = λ b k. only c.in-comment.result value k }
+    let value : c.in_comment.result ≡ open_after c.args.in_comment c.args.line.now = search rules in
+    record { value = value; scanned = law c.args.in_comment c.args.line.now c.in_comment.result value; only = λ b k. only c.in_comment.result value k }

@@ -7,67 +7,67 @@ use Rattle.stores.proofs.Runs.{found_none, found_some}
 use Rattle.standing.proofs.Asked.{no_switch, never_on, no_room, always_on, either_way}
 use Rattle.standing.proofs.judge.Goals as goal
 
-pub returns-in-err-with : goal.returns-in-err-with
-returns-in-err-with g c =
+pub returns-in_err-with : goal.returns-in_err-with
+returns-in_err-with g c =
     let s = g.S.Store in
-    let e = c.in-err-with.ensures in
-    let p = err_from_is_err_and c.from-residual.result c.from-residual.ensures.1 in
+    let e = c.in_err-with.ensures in
+    let p = err_from_is_err_and c.from_residual.result c.from_residual.ensures.1 in
     record {
-      advanced = advanced_op s.rollback_laws s.need (switch c.args.i) (Err c.in-err-with.field-0.0) c.requires e.valid e.outcome;
-      runs = no_switch s.model s.rollback s.need c.args.top c.args.i c.args.store.now c.switch.new.self _ c.from-residual.result e.outcome (p.1 ∙ ap Err p.2);
+      advanced = advanced_op s.rollback_laws s.need (switch c.args.i) (Err c.in_err-with.field-0.0) c.requires e.valid e.outcome;
+      runs = no_switch s.model s.rollback s.need c.args.top c.args.i c.args.store.now c.switch.new.self _ c.from_residual.result e.outcome (p.1 ∙ ap Err p.2);
     }
 
-pub returns-then-is-none : goal.returns-then-is-none
-returns-then-is-none g c =
+pub returns-then-is_none : goal.returns-then-is_none
+returns-then-is_none g c =
     let s = g.S.Store in
-    let e = c.in-ok-with.ensures in
-    let x = c.in-ok-with.with in
+    let e = c.in_ok-with.ensures in
+    let x = c.in_ok-with.with in
     record {
       advanced = advanced_op s.rollback_laws s.need (switch c.args.i) (Ok x) c.requires e.valid e.outcome;
       runs = never_on s.model s.rollback s.need c.args.top c.args.i c.args.store.now c.switch.new.self x e.outcome
-          (found_none (set_at (s.model c.switch.new.self) x) c.in-ok-find.field-0 c.if-is-none.ensures c.in-ok-find.ensures.1);
+          (found_none (set_at (s.model c.switch.new.self) x) c.in_ok-find.field-0 c.if-is_none.ensures c.in_ok-find.ensures.1);
     }
 
-pub returns-in-err-without : goal.returns-in-err-without
-returns-in-err-without g c =
+pub returns-in_err-without : goal.returns-in_err-without
+returns-in_err-without g c =
     let s = g.S.Store in
-    let e = c.in-ok-with.ensures in
-    let d = c.in-err-without.ensures in
-    let x = c.in-ok-with.with in
-    let p = err_from_is_err_and c.from-residual-in-err-without.result c.from-residual-in-err-without.ensures.1 in
+    let e = c.in_ok-with.ensures in
+    let d = c.in_err-without.ensures in
+    let x = c.in_ok-with.with in
+    let p = err_from_is_err_and c.from_residual-in_err-without.result c.from_residual-in_err-without.ensures.1 in
     record {
       advanced = advanced_trans s.rollback_laws (advanced_op s.rollback_laws s.need (switch c.args.i) (Ok x) c.requires e.valid e.outcome)
-          (advanced_op s.rollback_laws s.need (less c.args.top x) (Err c.in-err-without.field-0.0) e.valid d.valid d.outcome);
-      runs = no_room s.model s.rollback s.need c.args.top c.args.i c.args.store.now c.switch.new.self c.less.new.self x _ c.from-residual-in-err-without.result e.outcome
-          (found_some (set_at (s.model c.switch.new.self) x) c.in-ok-find.field-0 c.if-is-none.ensures c.in-ok-find.ensures.1) d.outcome (p.1 ∙ ap Err p.2);
+          (advanced_op s.rollback_laws s.need (less c.args.top x) (Err c.in_err-without.field-0.0) e.valid d.valid d.outcome);
+      runs = no_room s.model s.rollback s.need c.args.top c.args.i c.args.store.now c.switch.new.self c.less.new.self x _ c.from_residual-in_err-without.result e.outcome
+          (found_some (set_at (s.model c.switch.new.self) x) c.in_ok-find.field-0 c.if-is_none.ensures c.in_ok-find.ensures.1) d.outcome (p.1 ∙ ap Err p.2);
     }
 
-pub returns-then-is-none-2 : goal.returns-then-is-none-2
-returns-then-is-none-2 g c =
+pub returns-then-is_none-2 : goal.returns-then-is_none-2
+returns-then-is_none-2 g c =
     let s = g.S.Store in
-    let e = c.in-ok-with.ensures in
-    let d = c.in-ok-without.ensures in
-    let x = c.in-ok-with.with in
-    let y = c.in-ok-without.without in
+    let e = c.in_ok-with.ensures in
+    let d = c.in_ok-without.ensures in
+    let x = c.in_ok-with.with in
+    let y = c.in_ok-without.without in
     record {
       advanced = advanced_trans s.rollback_laws (advanced_op s.rollback_laws s.need (switch c.args.i) (Ok x) c.requires e.valid e.outcome)
           (advanced_op s.rollback_laws s.need (less c.args.top x) (Ok y) e.valid d.valid d.outcome);
       runs = always_on s.model s.rollback s.need c.args.top c.args.i c.args.store.now c.switch.new.self c.less.new.self x y e.outcome
-          (found_some (set_at (s.model c.switch.new.self) x) c.in-ok-find.field-0 c.if-is-none.ensures c.in-ok-find.ensures.1) d.outcome
-          (found_none (set_at (s.model c.less.new.self) y) c.in-ok-find-2.field-0 c.if-is-none-2.ensures c.in-ok-find-2.ensures.1);
+          (found_some (set_at (s.model c.switch.new.self) x) c.in_ok-find.field-0 c.if-is_none.ensures c.in_ok-find.ensures.1) d.outcome
+          (found_none (set_at (s.model c.less.new.self) y) c.in_ok-find-2.field-0 c.if-is_none-2.ensures c.in_ok-find-2.ensures.1);
     }
 
 pub returns : goal.returns
 returns g c =
     let s = g.S.Store in
-    let e = c.in-ok-with.ensures in
-    let d = c.in-ok-without.ensures in
-    let x = c.in-ok-with.with in
-    let y = c.in-ok-without.without in
+    let e = c.in_ok-with.ensures in
+    let d = c.in_ok-without.ensures in
+    let x = c.in_ok-with.with in
+    let y = c.in_ok-without.without in
     record {
       advanced = advanced_trans s.rollback_laws (advanced_op s.rollback_laws s.need (switch c.args.i) (Ok x) c.requires e.valid e.outcome)
           (advanced_op s.rollback_laws s.need (less c.args.top x) (Ok y) e.valid d.valid d.outcome);
       runs = either_way s.model s.rollback s.need c.args.top c.args.i c.args.store.now c.switch.new.self c.less.new.self x y e.outcome
-          (found_some (set_at (s.model c.switch.new.self) x) c.in-ok-find.field-0 c.if-is-none.ensures c.in-ok-find.ensures.1) d.outcome
-          (found_some (set_at (s.model c.less.new.self) y) c.in-ok-find-2.field-0 c.if-is-none-2.ensures c.in-ok-find-2.ensures.1);
+          (found_some (set_at (s.model c.switch.new.self) x) c.in_ok-find.field-0 c.if-is_none.ensures c.in_ok-find.ensures.1) d.outcome
+          (found_some (set_at (s.model c.less.new.self) y) c.in_ok-find-2.field-0 c.if-is_none-2.ensures c.in_ok-find-2.ensures.1);
     }

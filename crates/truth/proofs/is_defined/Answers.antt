@@ -8,4 +8,4 @@ returns-else-i-flags c =
     let fs = c.args.flags.now in
     le-ltb c.in-Some.i (length fs) c.if-i-flags.false
     ∙ sym (get_or_past fs c.in-Some.i false c.if-i-flags.false)
-    ∙ ap (λ (o : Option ℕ). flag_of o fs) (sym c.in-Some.is ∙ c.index-of.ensures)
+    ∙ ap (λ (o : Option ℕ). flag_of o fs) (sym c.in-Some.is ∙ c.index_of.ensures)

@@ -7,8 +7,8 @@ use Rattle.bitmaps.proofs.Slots.{word_within}
 use Rattle.bitmaps.proofs.Questions.{valid_held, configuration_below, held_bit}
 use Rattle.bitmaps.proofs.BitmapsStore.holds.Goals as goal
 
-pub slot-word-word-requires : goal.slot-word-word-requires
-slot-word-word-requires c =
+pub slot_word-word-requires : goal.slot_word-word-requires
+slot_word-word-requires c =
     let ws = c.args.self.now.words.now in
     let n = c.switches-n.result in
     let few : n ≤ 10 = omega (arith, c.switches-n.ensures, c.requires.few) in
@@ -27,7 +27,7 @@ returns c =
     let below : k < 2 ^ (get_or ws 0 0) = subst (λ (z : ℕ). k < 2 ^ z) c.switches-n.ensures lt in (
       omega (arith, c.if-a-len.false, c.len.ensures),
       below,
-      ap (on (k % 64)) c.slot-word-word.ensures.value
+      ap (on (k % 64)) c.slot_word-word.ensures.value
           ∙ ap (λ (z : ℕ). on (k % 64) (get_or ws (start z c.args.a + k / 64) 0)) c.switches-n.ensures
           ∙ held_bit ws c.args.a k (omega (arith, c.if-a-len.false, c.len.ensures, size_means ws)) below,
     )

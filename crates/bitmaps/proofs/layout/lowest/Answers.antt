@@ -4,9 +4,9 @@ use Rattle.bitmaps.proofs.layout.lowest.Goals as goal
 
 pub returns-then-word-ne0 : goal.returns-then-word-ne0
 returns-then-word-ne0 c =
-    let word = c.slot-word-word in
-    lowest_found c.args.n c.args.words.now c.args.j c.loop-t.t word.result (omega (arith, c.loop-t-test.true, c.slot-words-t-end.ensures.value))
+    let word = c.slot_word-word in
+    lowest_found c.args.n c.args.words.now c.args.j c.loop-t.t word.result (omega (arith, c.loop-t-test.true, c.slot_words-t-end.ensures.value))
     word.ensures.value (omega (arith, c.if-word-ne0.true)) word.ensures.unused c.loop-t.invariant
 
 pub returns : goal.returns
-returns c = lowest_none c.args.n c.args.words.now c.args.j (λ s h. c.loop-t.invariant s (omega (arith, h, c.loop-t-test.false, c.slot-words-t-end.ensures.value)))
+returns c = lowest_none c.args.n c.args.words.now c.args.j (λ s h. c.loop-t.invariant s (omega (arith, h, c.loop-t-test.false, c.slot_words-t-end.ensures.value)))

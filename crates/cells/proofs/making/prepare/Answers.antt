@@ -3,8 +3,8 @@ use Rattle.cells.specs.Words.{begun}
 use Rattle.cells.proofs.Begun.{new_store, due_many, due_none}
 use Rattle.cells.proofs.making.prepare.Goals as goal
 
-pub returns-then-n-gt-MAX-SWITCHES : goal.returns-then-n-gt-MAX-SWITCHES
-returns-then-n-gt-MAX-SWITCHES c = (due_many c.args.words.now c.args.n (omega arith), refl)
+pub returns-then-n-gt-MAX_SWITCHES : goal.returns-then-n-gt-MAX_SWITCHES
+returns-then-n-gt-MAX_SWITCHES c = (due_many c.args.words.now c.args.n (omega arith), refl)
 
 pub returns : goal.returns
 returns c = (

@@ -12,8 +12,8 @@ returns-then-low-high c =
 pub returns-then-found-ne0 : goal.returns-then-found-ne0
 returns-then-found-ne0 c =
     record {
-      outcome = stepped_held c.args.words.now c.requires.0 (c.args.switch, c.args.low, c.args.high) c.seek-cell-found.result
-          c.if-low-high.false c.if-found-ne0.true c.seek-cell-found.ensures;
+      outcome = stepped_held c.args.words.now c.requires.0 (c.args.switch, c.args.low, c.args.high) c.seek_cell-found.result
+          c.if-low-high.false c.if-found-ne0.true c.seek_cell-found.ensures;
       working = λ i h l. refl;
       same = tt;
     }
@@ -24,7 +24,7 @@ returns-then-words-room c =
       outcome = (
         refl,
         out_of_room c.args.words.now c.requires.0 (c.args.switch, c.args.low, c.args.high) c.if-low-high.false
-            (sym c.if-found-ne0.false ∙ c.seek-cell-found.ensures) (omega arith),
+            (sym c.if-found-ne0.false ∙ c.seek_cell-found.ensures) (omega arith),
       );
       working = λ i h l. refl;
       same = refl;
@@ -33,15 +33,15 @@ returns-then-words-room c =
 pub returns : goal.returns
 returns c =
     let ws : List ℕ = c.args.words.now in
-    let ws' : List ℕ = c.push-cell.new.words in
+    let ws' : List ℕ = c.push_cell.new.words in
     let x : Cell = (c.args.switch, c.args.low, c.args.high) in
     let full : count ws < capacity ws = omega (arith, c.if-words-room.false, c.room.ensures) in
     let p : Places ws ws' x =
-    subst (λ (v : List ℕ). Places ws v x) (sym c.push-cell.ensures.after) (pushed_places ws x (omega (arith, full))) in
+    subst (λ (v : List ℕ). Places ws v x) (sym c.push_cell.ensures.after) (pushed_places ws x (omega (arith, full))) in
     record {
-      outcome = subst (Stepped ws ws' (node (cells_of ws) x)) (sym c.push-cell.ensures.number)
+      outcome = subst (Stepped ws ws' (node (cells_of ws) x)) (sym c.push_cell.ensures.number)
           (stepped_new ws ws' c.requires.0 x c.requires.1 c.if-low-high.false
-          (sym c.if-found-ne0.false ∙ c.seek-cell-found.ensures) full p);
+          (sym c.if-found-ne0.false ∙ c.seek_cell-found.ensures) full p);
       working = λ i h l.
           p.other i (λ e. omega arith) (λ e. omega (arith, mod_below (c.args.switch + 3 * c.args.low + 5 * c.args.high) 64 (omega arith))) (inl (omega arith));
       same = tt;

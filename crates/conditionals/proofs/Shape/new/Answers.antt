@@ -5,8 +5,8 @@ use Rattle.conditionals.proofs.Turns.{beginning_none, beginning_some}
 use Rattle.conditionals.proofs.Views.{texts_length, copied_more, copied_all}
 use Rattle.conditionals.proofs.Shape.new.Goals as goal
 
-pub returns-then-switches-gt-MAX-NAMES : goal.returns-then-switches-gt-MAX-NAMES
-returns-then-switches-gt-MAX-NAMES c = beginning_none (texts c.args.switches.now) (omega (arith, texts_length c.args.switches.now))
+pub returns-then-switches-gt-MAX_NAMES : goal.returns-then-switches-gt-MAX_NAMES
+returns-then-switches-gt-MAX_NAMES c = beginning_none (texts c.args.switches.now) (omega (arith, texts_length c.args.switches.now))
 
 pub loop-i-preserved : goal.loop-i-preserved
 loop-i-preserved c = (length-set c.loop-i.names c.loop-i.i _ ∙ c.loop-i.invariant.0, search (rules, copied_more))

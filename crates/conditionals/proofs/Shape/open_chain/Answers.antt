@@ -4,4 +4,4 @@ use Rattle.conditionals.proofs.Shape.open_chain.Goals as goal
 
 pub returns : goal.returns
 returns c =
-    open_done c.args.self.now c.args.number c.args.last c.open-chains-depth.result c.open-chains-depth.ensures.value (omega arith) (omega arith) (omega arith) c.if-last.false
+    open_done c.args.self.now c.args.number c.args.last c.open_chains-depth.result c.open_chains-depth.ensures.value (omega arith) (omega arith) (omega arith) c.if-last.false

@@ -12,20 +12,20 @@ returns-then-kept-len c =
       cut = cut_back_of s ws c.args.to (cut_all ws c.requires c.args.to (omega (arith, c.if-kept-len.true, c.max-kept.ensures, c.len.ensures, size_means ws)));
     }
 
-pub cut-cells-requires : goal.cut-cells-requires
-cut-cells-requires c =
+pub cut_cells-requires : goal.cut_cells-requires
+cut_cells-requires c =
     (c.requires.formed, (omega (arith, c.max-kept.ensures), omega (arith, c.if-kept-len.false, c.len.ensures, size_means c.args.self.now.words.now)))
 
 pub returns : goal.returns
 returns c =
     let s = c.args.self.now in
     let ws = s.words.now in
-    let ws' = c.cut-cells.new.words in
+    let ws' = c.cut_cells.new.words in
     let m = c.max-kept.result in
     record {
-      valid = cut_valid ws ws' m c.requires (omega (arith, c.cut-cells.auto.words)) c.cut-cells.ensures;
+      valid = cut_valid ws ws' m c.requires (omega (arith, c.cut_cells.auto.words)) c.cut_cells.ensures;
       cut =
           cut_back_of s ws' c.args.to
-          (cut_back ws ws' m c.requires (omega (arith, c.cut-cells.auto.words)) c.cut-cells.ensures c.args.to
+          (cut_back ws ws' m c.requires (omega (arith, c.cut_cells.auto.words)) c.cut_cells.ensures c.args.to
           (omega (arith, c.if-kept-len.false, c.max-kept.ensures, c.len.ensures)));
     }

@@ -4,8 +4,8 @@ use Rattle.diagrams.specs.Laws.{size_means, set_inside}
 use Rattle.diagrams.proofs.Sets.{configuration_below}
 use Rattle.diagrams.proofs.DiagramsStore.holds.Goals as goal
 
-pub holds-cell-requires : goal.holds-cell-requires
-holds-cell-requires c = (c.requires.formed, omega (arith, c.if-a-len.false, c.len.ensures, size_means c.args.self.now.words.now))
+pub holds_cell-requires : goal.holds_cell-requires
+holds_cell-requires c = (c.requires.formed, omega (arith, c.if-a-len.false, c.len.ensures, size_means c.args.self.now.words.now))
 
 pub returns : goal.returns
 returns c =
@@ -16,5 +16,5 @@ returns c =
     let below : k < 2 ^ switches ws = subst (λ (z : ℕ). k < 2 ^ z) c.switches.ensures lt in (
       omega (arith, c.if-a-len.false, c.len.ensures),
       below,
-      c.holds-cell.ensures ∙ sym (set_inside ws c.args.a k (omega (arith, c.if-a-len.false, c.len.ensures, size_means ws)) below),
+      c.holds_cell.ensures ∙ sym (set_inside ws c.args.a k (omega (arith, c.if-a-len.false, c.len.ensures, size_means ws)) below),
     )

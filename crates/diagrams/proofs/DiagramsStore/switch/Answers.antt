@@ -7,6 +7,6 @@ returns c =
     let s = c.args.self.now in
     let ws = s.words.now in
     record {
-      valid = operated_valid ws c.switch-cell.new.words _ _ _ c.switch-cell.result c.requires c.switch-cell.ensures;
-      outcome = outcome s c.switch-cell.new.words _ _ _ _ c.requires (omega (arith, c.switch-cell.auto.words)) (asked_switch ws c.args.i) c.switch-cell.result c.switch-cell.ensures;
+      valid = operated_valid ws c.switch_cell.new.words _ _ _ c.switch_cell.result c.requires c.switch_cell.ensures;
+      outcome = outcome s c.switch_cell.new.words _ _ _ _ c.requires (omega (arith, c.switch_cell.auto.words)) (asked_switch ws c.args.i) c.switch_cell.result c.switch_cell.ensures;
     }

@@ -5,17 +5,17 @@ use Rattle.directives.proofs.gap.after_gap.Goals as goal
 
 pub loop-rest-smaller-in-42· : goal.loop-rest-smaller-in-42·
 loop-rest-smaller-in-42· c =
-    (skip_comment c.loop-rest.rest.now c.after-comment-rest.result.now (search rules) (search rules) (search rules) c.after-comment-rest.ensures).1
+    (skip_comment c.loop-rest.rest.now c.after_comment-rest.result.now (search rules) (search rules) (search rules) c.after_comment-rest.ensures).1
 
 pub loop-rest-preserved-in-42· : goal.loop-rest-preserved-in-42·
 loop-rest-preserved-in-42· c =
-    (skip_comment c.loop-rest.rest.now c.after-comment-rest.result.now (search rules) (search rules) (search rules) c.after-comment-rest.ensures).0 ∙ c.loop-rest.invariant
+    (skip_comment c.loop-rest.rest.now c.after_comment-rest.result.now (search rules) (search rules) (search rules) c.after_comment-rest.ensures).0 ∙ c.loop-rest.invariant
 
 pub loop-rest-preserved : goal.loop-rest-preserved
-loop-rest-preserved c = skip_blank c.loop-rest.rest.now (search rules) (sym c.if-is-blank.ensures) ∙ c.loop-rest.invariant
+loop-rest-preserved c = skip_blank c.loop-rest.rest.now (search rules) (sym c.if-is_blank.ensures) ∙ c.loop-rest.invariant
 
-pub returns-in-default : goal.returns-in-default
-returns-in-default c =
+pub returns-in_default : goal.returns-in_default
+returns-in_default c =
     let t = c.loop-rest.rest.now in
     let b : 1 ≤ length t → blank (get_or t 0 0) ≡ false = search rules in
     let n : get_or t 0 0 ≡ 47 → get_or t 1 0 ≡ 42 → ⊥ = search rules in

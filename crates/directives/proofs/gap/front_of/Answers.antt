@@ -3,7 +3,7 @@ use Rattle.directives.specs.Gaps.{skip, between, front}
 use Rattle.directives.proofs.Skips.{inside_is}
 use Rattle.directives.proofs.gap.front_of.Goals as goal
 
-pub returns-then-in-comment : goal.returns-then-in-comment
-returns-then-in-comment c =
+pub returns-then-in_comment : goal.returns-then-in_comment
+returns-then-in_comment c =
     let l = c.args.line.now in
-    c.after-gap.ensures.value ∙ ap (skip between) c.after-comment.ensures ∙ sym (inside_is l) ∙ ap (λ (b : Bool). front b l) (sym c.if-in-comment.true)
+    c.after_gap.ensures.value ∙ ap (skip between) c.after_comment.ensures ∙ sym (inside_is l) ∙ ap (λ (b : Bool). front b l) (sym c.if-in_comment.true)

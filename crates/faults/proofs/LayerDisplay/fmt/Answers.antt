@@ -6,4 +6,4 @@ use Rattle.faults.proofs.LayerDisplay.fmt.Goals as goal
 
 pub returns-in-Conditionals-clause-writes : goal.returns-in-Conditionals-clause-writes
 returns-in-Conditionals-clause-writes g c =
-    subst (λ (l : Layer). WritesOnOk g.W.Write.write_str_gives c.args.f.now c.write-str-in-Conditionals.result (layer_text l) c.write-str-in-Conditionals.new.self) (sym c.in-Conditionals.is) c.write-str-in-Conditionals.ensures.writes
+    subst (λ (l : Layer). WritesOnOk g.W.Write.write_str_gives c.args.f.now c.write_str-in-Conditionals.result (layer_text l) c.write_str-in-Conditionals.new.self) (sym c.in-Conditionals.is) c.write_str-in-Conditionals.ensures.writes

@@ -14,8 +14,8 @@ returns-in-Ok c = (
 pub returns : goal.returns
 returns c =
     let d = c.in-Err.ensures.outcome in (
-      restored c.args.words.now c.combine.new.words c.cut-cells.new.words c.drop-guard-2.new.self.0
-          (op_of (meaning c.args.op) c.args.words.now c.args.a c.args.b) c.requires (omega (arith, c.combine.auto.words)) (omega (arith, c.cut-cells.auto.words))
-          d.1 c.cut-cells.ensures c.drop-guard-2.ensures,
+      restored c.args.words.now c.combine.new.words c.cut_cells.new.words c.drop-guard-2.new.self.0
+          (op_of (meaning c.args.op) c.args.words.now c.args.a c.args.b) c.requires (omega (arith, c.combine.auto.words)) (omega (arith, c.cut_cells.auto.words))
+          d.1 c.cut_cells.ensures c.drop-guard-2.ensures,
       inr (d.0, (c.if-a-held.false, c.if-b-held.false), d.1.full),
     )

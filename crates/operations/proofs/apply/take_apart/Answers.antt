@@ -33,29 +33,29 @@ falls ws a b m s ha hb two e =
 pub overflow-sub-switch : goal.overflow-sub-switch
 overflow-sub-switch c =
     let t = top c.args.words.now c.args.a c.args.b c.max-switch.result c.requires.0 c.requires.1.0 c.requires.1.1.0 c.requires.1.1.1
-    (omega (arith, c.max-switch.ensures, c.level-of.ensures.is, c.level-of-2.ensures.is)) in
+    (omega (arith, c.max-switch.ensures, c.level_of.ensures.is, c.level_of-2.ensures.is)) in
     t.0
 
-pub sides-at-requires : goal.sides-at-requires
-sides-at-requires c =
+pub sides_at-requires : goal.sides_at-requires
+sides_at-requires c =
     let t = top c.args.words.now c.args.a c.args.b c.max-switch.result c.requires.0 c.requires.1.0 c.requires.1.1.0 c.requires.1.1.1
-    (omega (arith, c.max-switch.ensures, c.level-of.ensures.is, c.level-of-2.ensures.is)) in
+    (omega (arith, c.max-switch.ensures, c.level_of.ensures.is, c.level_of-2.ensures.is)) in
     (c.requires.0, (c.requires.1.0, t.1))
 
-pub sides-at-requires-2 : goal.sides-at-requires-2
-sides-at-requires-2 c =
+pub sides_at-requires-2 : goal.sides_at-requires-2
+sides_at-requires-2 c =
     let t = top c.args.words.now c.args.a c.args.b c.max-switch.result c.requires.0 c.requires.1.0 c.requires.1.1.0 c.requires.1.1.1
-    (omega (arith, c.max-switch.ensures, c.level-of.ensures.is, c.level-of-2.ensures.is)) in
+    (omega (arith, c.max-switch.ensures, c.level_of.ensures.is, c.level_of-2.ensures.is)) in
     (c.requires.0, (c.requires.1.1.0, t.1))
 
 pub returns : goal.returns
 returns c =
     let ws : List ℕ = c.args.words.now in
-    let e : c.max-switch.result ≡ max (level (cells_of ws) c.args.a) (level (cells_of ws) c.args.b) = omega (arith, c.max-switch.ensures, c.level-of.ensures.is, c.level-of-2.ensures.is) in
+    let e : c.max-switch.result ≡ max (level (cells_of ws) c.args.a) (level (cells_of ws) c.args.b) = omega (arith, c.max-switch.ensures, c.level_of.ensures.is, c.level_of-2.ensures.is) in
     let t = top ws c.args.a c.args.b c.max-switch.result c.requires.0 c.requires.1.0 c.requires.1.1.0 c.requires.1.1.1 e in
     let f = falls ws c.args.a c.args.b c.max-switch.result c.requires.0 c.requires.1.0 c.requires.1.1.0 c.requires.1.1.1 e in
-    let la = c.sides-at.ensures.low in let ha = c.sides-at.ensures.high in
-    let lb = c.sides-at-2.ensures.low in let hb = c.sides-at-2.ensures.high in
+    let la = c.sides_at.ensures.low in let ha = c.sides_at.ensures.high in
+    let lb = c.sides_at-2.ensures.low in let hb = c.sides_at-2.ensures.high in
     record {
       switch = t.1;
       level_a = t.2;

@@ -2,8 +2,8 @@ use Rattle.std.proofs.Common.{◌≡◌, ℕ, ◌-◌, ◌≤◌, length, take, 
 use Rattle.rulelines.proofs.kind.kind_of.Goals as goal
 
 -- a word lies within its line
-pub by-word-requires : goal.by-word-requires
-by-word-requires c =
+pub by_word-requires : goal.by_word-requires
+by_word-requires c =
     let w = c.in-Name.word in
     let line = c.new-tokens.result.line.now in
     let e = ap length c.in-Name.ensures.part in

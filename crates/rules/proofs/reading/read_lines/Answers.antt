@@ -22,40 +22,40 @@ loop-rest-init g c =
     (advanced_none s.rollback_laws c.requires, goes_start s.model s.rollback s.need (names a.reading) (lookup a.reading) a.reading.known.none a.reading.known.top a.lines a.text.now a.store.now)
 
 pub loop-rest-smaller : goal.loop-rest-smaller
-loop-rest-smaller g c = c.first-line.ensures.shorter (not_empty (length c.loop-rest.rest.now) c.loop-rest-test.ensures)
+loop-rest-smaller g c = c.first_line.ensures.shorter (not_empty (length c.loop-rest.rest.now) c.loop-rest-test.ensures)
 
 pub loop-rest-preserved : goal.loop-rest-preserved
 loop-rest-preserved g c =
     let s = g.S.Store in
     let a = c.args in
     let l = c.loop-rest in
-    let f = c.first-line in
+    let f = c.first_line in
     let some = not_empty (length l.rest.now) c.loop-rest-test.ensures in
-    let e = c.in-ok-set.ensures in (
+    let e = c.in_ok-set.ensures in (
       advanced_trans s.rollback_laws l.invariant.0 e.advanced,
       goes_more s.model s.rollback s.need (names a.reading) (lookup a.reading) a.reading.known.none a.reading.known.top a.lines a.text.now a.store.now
-          l.allowed l.number c.saturating-add-number.result c.in-Next.set l.rest.now f.result.0.now f.result.1.now l.store c.read-line.new.store some (f.ensures.first some) f.ensures.content f.ensures.behind c.saturating-add-number.ensures l.invariant.1
-          (turned_by s.model s.rollback s.need (names a.reading) (lookup a.reading) a.reading.known.none a.reading.known.top l.allowed c.saturating-add-number.result f.result.0.now l.store c.read-line.new.store _ (Next c.in-Next.set) c.in-Next.is e.turned),
+          l.allowed l.number c.saturating_add-number.result c.in-Next.set l.rest.now f.result.0.now f.result.1.now l.store c.read_line.new.store some (f.ensures.first some) f.ensures.content f.ensures.behind c.saturating_add-number.ensures l.invariant.1
+          (turned_by s.model s.rollback s.need (names a.reading) (lookup a.reading) a.reading.known.none a.reading.known.top l.allowed c.saturating_add-number.result f.result.0.now l.store c.read_line.new.store _ (Next c.in-Next.set) c.in-Next.is e.turned),
     )
 
-pub read-line-requires : goal.read-line-requires
-read-line-requires g c = c.loop-rest.invariant.0.fine
+pub read_line-requires : goal.read_line-requires
+read_line-requires g c = c.loop-rest.invariant.0.fine
 
-pub returns-in-err-set : goal.returns-in-err-set
-returns-in-err-set g c =
+pub returns-in_err-set : goal.returns-in_err-set
+returns-in_err-set g c =
     let s = g.S.Store in
     let a = c.args in
     let l = c.loop-rest in
-    let f = c.first-line in
+    let f = c.first_line in
     let some = not_empty (length l.rest.now) c.loop-rest-test.ensures in
-    let e = c.in-err-set.ensures in
-    let p = err_from_is_err_and c.from-residual.result c.from-residual.ensures.1 in
+    let e = c.in_err-set.ensures in
+    let p = err_from_is_err_and c.from_residual.result c.from_residual.ensures.1 in
     record {
       advanced = advanced_trans s.rollback_laws l.invariant.0 e.advanced;
-      runs = subst (λ (r : Result Rules RuleFault). Runs s.model s.rollback s.need (ruling (names a.reading) (lookup a.reading) a.reading.known.none a.reading.known.top a.reading.known.top a.lines (lines_of a.text.now)) a.store.now c.read-line.new.store (seen answer_of r))
+      runs = subst (λ (r : Result Rules RuleFault). Runs s.model s.rollback s.need (ruling (names a.reading) (lookup a.reading) a.reading.known.none a.reading.known.top a.reading.known.top a.lines (lines_of a.text.now)) a.store.now c.read_line.new.store (seen answer_of r))
           (sym (p.1 ∙ ap Err p.2))
           (goes_refused s.model s.rollback s.need (names a.reading) (lookup a.reading) a.reading.known.none a.reading.known.top a.lines a.text.now a.store.now
-          l.allowed l.number c.saturating-add-number.result l.rest.now f.result.0.now f.result.1.now c.in-err-set.field-0.0 l.store c.read-line.new.store some (f.ensures.first some) f.ensures.content f.ensures.behind c.saturating-add-number.ensures l.invariant.1 e.turned);
+          l.allowed l.number c.saturating_add-number.result l.rest.now f.result.0.now f.result.1.now c.in_err-set.field-0.0 l.store c.read_line.new.store some (f.ensures.first some) f.ensures.content f.ensures.behind c.saturating_add-number.ensures l.invariant.1 e.turned);
     }
 
 pub returns-in-Last : goal.returns-in-Last
@@ -63,14 +63,14 @@ returns-in-Last g c =
     let s = g.S.Store in
     let a = c.args in
     let l = c.loop-rest in
-    let f = c.first-line in
+    let f = c.first_line in
     let some = not_empty (length l.rest.now) c.loop-rest-test.ensures in
-    let e = c.in-ok-set.ensures in
+    let e = c.in_ok-set.ensures in
     record {
       advanced = advanced_trans s.rollback_laws l.invariant.0 e.advanced;
       runs = goes_last s.model s.rollback s.need (names a.reading) (lookup a.reading) a.reading.known.none a.reading.known.top a.lines a.text.now a.store.now
-          l.allowed l.number c.saturating-add-number.result l.rest.now f.result.0.now f.result.1.now l.store c.read-line.new.store some (f.ensures.first some) f.ensures.content f.ensures.behind c.saturating-add-number.ensures l.invariant.1
-          (turned_by s.model s.rollback s.need (names a.reading) (lookup a.reading) a.reading.known.none a.reading.known.top l.allowed c.saturating-add-number.result f.result.0.now l.store c.read-line.new.store _ Last c.in-Last.is e.turned);
+          l.allowed l.number c.saturating_add-number.result l.rest.now f.result.0.now f.result.1.now l.store c.read_line.new.store some (f.ensures.first some) f.ensures.content f.ensures.behind c.saturating_add-number.ensures l.invariant.1
+          (turned_by s.model s.rollback s.need (names a.reading) (lookup a.reading) a.reading.known.none a.reading.known.top l.allowed c.saturating_add-number.result f.result.0.now l.store c.read_line.new.store _ Last c.in-Last.is e.turned);
     }
 
 pub returns : goal.returns

@@ -15,12 +15,12 @@ use Rattle.rules.proofs.Law.{ruled_law}
 use Rattle.rules.proofs.Rules.{one_each, when_true, when_false, constant}
 use Rattle.rules.proofs.reading.read_rules.Goals as goal
 
-pub returns-then-not-names-fit : goal.returns-then-not-names-fit
-returns-then-not-names-fit g c =
+pub returns-then-not-names_fit : goal.returns-then-not-names_fit
+returns-then-not-names_fit g c =
     let s = g.S.Store in
     let ns = texts c.args.names.now in
     let n : ℕ = (s.model c.args.store.now).n in
-    let unfit : false ≡ (eqb (length ns) n && distinct ns) = subst (λ (m : ℕ). false ≡ (eqb (length ns) m && distinct ns)) c.switches.ensures c.if-not-names-fit.ensures in
+    let unfit : false ≡ (eqb (length ns) n && distinct ns) = subst (λ (m : ℕ). false ≡ (eqb (length ns) m && distinct ns)) c.switches.ensures c.if-not-names_fit.ensures in
     record {
       advanced = advanced_none s.rollback_laws c.requires;
       outcome = when_false (eqb (length ns) n && distinct ns) _ _ unfit (refl, refl);
@@ -36,7 +36,7 @@ returns-in-Ok g c =
     let n : ℕ = (s.model entry).n in
     let ok = s.consistent entry c.requires in
     let e = c.in-Ok.ensures in
-    let fit : true ≡ (eqb (length ns) n && distinct ns) = subst (λ (m : ℕ). true ≡ (eqb (length ns) m && distinct ns)) c.switches.ensures c.if-not-names-fit.ensures in
+    let fit : true ≡ (eqb (length ns) n && distinct ns) = subst (λ (m : ℕ). true ≡ (eqb (length ns) m && distinct ns)) c.switches.ensures c.if-not-names_fit.ensures in
     let many = one_each a.names.now n fit in
     let zn = constant (s.model entry) c.none.result empty ok c.none.ensures in
     let tp = constant (s.model entry) c.top.result (s.model entry).allowed ok c.top.ensures in
@@ -59,7 +59,7 @@ returns-in-Err g c =
     let ok = s.consistent entry c.requires in
     let e = c.in-Err.ensures in
     let back = release_restores s.rollback_laws c.mark-mark.result.at ok e.advanced c.mark-mark.ensures c.release.ensures.cut in
-    let fit : true ≡ (eqb (length ns) n && distinct ns) = subst (λ (m : ℕ). true ≡ (eqb (length ns) m && distinct ns)) c.switches.ensures c.if-not-names-fit.ensures in
+    let fit : true ≡ (eqb (length ns) n && distinct ns) = subst (λ (m : ℕ). true ≡ (eqb (length ns) m && distinct ns)) c.switches.ensures c.if-not-names_fit.ensures in
     let many = one_each a.names.now n fit in
     let zn = constant (s.model entry) c.none.result empty ok c.none.ensures in
     let tp = constant (s.model entry) c.top.result (s.model entry).allowed ok c.top.ensures in

@@ -25,22 +25,22 @@ loop-i-preserved g c =
     let few : n ≤ 24 = (s.consistent e c.requires).few in
     let v = l.invariant.0.fine in (
       advanced_trans s.rollback_laws l.invariant.0 (advanced_op s.rollback_laws s.need (switch l.i) c.switch.result v c.switch.ensures.valid c.switch.ensures.outcome),
-      length-set l.numbers l.i c.in-ok-numbers.field-0 ∙ l.invariant.1,
-      goes_more s.model s.rollback s.need n e l.i c.in-ok-numbers.field-0 l.numbers l.store c.switch.new.self c.switch.result lt (omega (arith, lt, few, l.invariant.1)) l.invariant.2 c.switch.ensures.outcome c.in-ok-numbers.ensures,
+      length-set l.numbers l.i c.in_ok-numbers.field-0 ∙ l.invariant.1,
+      goes_more s.model s.rollback s.need n e l.i c.in_ok-numbers.field-0 l.numbers l.store c.switch.new.self c.switch.result lt (omega (arith, lt, few, l.invariant.1)) l.invariant.2 c.switch.ensures.outcome c.in_ok-numbers.ensures,
     )
 
-pub returns-in-err-numbers : goal.returns-in-err-numbers
-returns-in-err-numbers g c =
+pub returns-in_err-numbers : goal.returns-in_err-numbers
+returns-in_err-numbers g c =
     let s = g.S.Store in
     let e = c.args.store.now in
     let l = c.loop-i in
     let n : ℕ = (s.model e).n in
     let lt : l.i < n = omega (arith, c.loop-i-test.true, c.switches-i-end.ensures) in
-    let p = err_from_is_err_and c.from-residual.result c.from-residual.ensures.1 in
+    let p = err_from_is_err_and c.from_residual.result c.from_residual.ensures.1 in
     record {
       advanced = advanced_trans s.rollback_laws l.invariant.0 (advanced_op s.rollback_laws s.need (switch l.i) c.switch.result l.invariant.0.fine c.switch.ensures.valid c.switch.ensures.outcome);
       runs = subst (λ (r : Result (List ℕ) RuleFault). Runs s.model s.rollback s.need (switching n 0 [] done) e c.switch.new.self (seen (take n) r)) (sym (p.1 ∙ ap Err p.2))
-          (goes_refused s.model s.rollback s.need n e l.i c.in-err-numbers.field-0.0 (take l.i l.numbers) l.store c.switch.new.self c.switch.result lt l.invariant.2 c.switch.ensures.outcome c.in-err-numbers.ensures);
+          (goes_refused s.model s.rollback s.need n e l.i c.in_err-numbers.field-0.0 (take l.i l.numbers) l.store c.switch.new.self c.switch.result lt l.invariant.2 c.switch.ensures.outcome c.in_err-numbers.ensures);
     }
 
 pub returns : goal.returns

@@ -5,7 +5,7 @@ use Rattle.sources.proofs.line.line_count.Goals as goal
 pub overflow-add-count : goal.overflow-add-count
 overflow-add-count c =
     let l = c.loop-rest in
-    omega (arith, l.invariant, ap length (c.next-line.ensures.first (not_empty (length l.rest.now) c.loop-rest-test.ensures)), lines_few c.args.text.now)
+    omega (arith, l.invariant, ap length (c.next_line.ensures.first (not_empty (length l.rest.now) c.loop-rest-test.ensures)), lines_few c.args.text.now)
 
 pub returns : goal.returns
 returns c = omega (arith, c.loop-rest.invariant, none_left c.loop-rest.rest.now c.loop-rest-test.ensures)

@@ -6,11 +6,11 @@ use Rattle.text.proofs.scanner.behind_gap.Goals as goal
 
 pub loop-rest-smaller-then-comments : goal.loop-rest-smaller-then-comments
 loop-rest-smaller-then-comments c =
-    (gap_comment c.args.comments c.loop-rest.rest.now c.behind-comment-rest.result.now c.if-comments.true (search rules) (search rules) (search rules) c.behind-comment-rest.ensures).1
+    (gap_comment c.args.comments c.loop-rest.rest.now c.behind_comment-rest.result.now c.if-comments.true (search rules) (search rules) (search rules) c.behind_comment-rest.ensures).1
 
 pub loop-rest-preserved-then-comments : goal.loop-rest-preserved-then-comments
 loop-rest-preserved-then-comments c =
-    (gap_comment c.args.comments c.loop-rest.rest.now c.behind-comment-rest.result.now c.if-comments.true (search rules) (search rules) (search rules) c.behind-comment-rest.ensures).0
+    (gap_comment c.args.comments c.loop-rest.rest.now c.behind_comment-rest.result.now c.if-comments.true (search rules) (search rules) (search rules) c.behind_comment-rest.ensures).0
     ∙ c.loop-rest.invariant
 
 pub returns-in-47-2 : goal.returns-in-47-2
@@ -19,7 +19,7 @@ returns-in-47-2 c =
     ∙ c.loop-rest.invariant
 
 pub loop-rest-preserved : goal.loop-rest-preserved
-loop-rest-preserved c = gap_blank c.args.comments c.loop-rest.rest.now (search rules) (sym c.if-blank-byte.ensures) ∙ c.loop-rest.invariant
+loop-rest-preserved c = gap_blank c.args.comments c.loop-rest.rest.now (search rules) (sym c.if-blank_byte.ensures) ∙ c.loop-rest.invariant
 
 pub returns-in-default·2 : goal.returns-in-default·2
 returns-in-default·2 c =

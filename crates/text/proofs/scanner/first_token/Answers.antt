@@ -5,7 +5,7 @@ use Rattle.text.proofs.scanner.first_token.Goals as goal
 
 pub word-requires : goal.word-requires
 word-requires c =
-    run_some c.args.rest.now _ c.run.result (search rules) (sym c.if-word-byte.ensures) c.run.ensures.front c.cut-in-len1-up.ensures.text
+    run_some c.args.rest.now _ c.run.result (search rules) (sym c.if-word_byte.ensures) c.run.ensures.front c.cut-in-len1-up.ensures.text
 
 pub returns-in-empty : goal.returns-in-empty
 returns-in-empty c =

@@ -12,20 +12,20 @@ word-word-requires c =
       few = c.requires.valid.few;
       held = part_held c.args.self ws c.loop-t.words c.start-to.result c.loop-t.t c.requires.valid c.loop-t.auto.words c.start-to.ensures c.requires.operands c.requires.room c.loop-t.invariant;
       operands = part_operands c.args.self ws c.loop-t.words c.start-to.result c.loop-t.t c.requires.valid c.loop-t.auto.words c.start-to.ensures c.requires.operands c.requires.room c.loop-t.invariant;
-      place = omega (arith, c.loop-t-test.true, c.slot-words-t-end.ensures.value);
+      place = omega (arith, c.loop-t-test.true, c.slot_words-t-end.ensures.value);
     }
 
 pub bounds-words-to : goal.bounds-words-to
 bounds-words-to c =
     place_within c.args.self c.args.words.now c.loop-t.words c.start-to.result c.loop-t.t c.requires.valid c.loop-t.auto.words c.start-to.ensures c.requires.operands c.requires.room c.loop-t.invariant
-    (omega (arith, c.loop-t-test.true, c.slot-words-t-end.ensures.value))
+    (omega (arith, c.loop-t-test.true, c.slot_words-t-end.ensures.value))
 
 pub loop-t-preserved : goal.loop-t-preserved
 loop-t-preserved c =
     part_more c.args.self c.args.words.now c.loop-t.words c.start-to.result c.loop-t.t c.requires.valid c.loop-t.auto.words c.start-to.ensures c.requires.operands c.requires.room c.loop-t.invariant
-    c.word-word.result (omega (arith, c.loop-t-test.true, c.slot-words-t-end.ensures.value)) c.word-word.ensures
+    c.word-word.result (omega (arith, c.loop-t-test.true, c.slot_words-t-end.ensures.value)) c.word-word.ensures
 
 pub returns : goal.returns
 returns c =
     part_written c.args.self c.args.words.now c.loop-t.words c.start-to.result c.loop-t.t c.requires.valid c.loop-t.auto.words c.start-to.ensures c.requires.operands c.requires.room c.loop-t.invariant
-    (omega (arith, c.loop-t-test.false, c.loop-t.auto.t-end, c.slot-words-t-end.ensures.value))
+    (omega (arith, c.loop-t-test.false, c.loop-t.auto.t-end, c.slot_words-t-end.ensures.value))

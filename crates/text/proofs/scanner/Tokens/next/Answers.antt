@@ -12,14 +12,14 @@ overflow-sub-start c =
     let line = c.args.self.now.line.now in
     let from = c.args.self.now.next in
     let s = c.behind.result.now in
-    omega (arith, ap length c.behind-gap-rest.ensures, length-drop (gap c.args.self.now.comments between s) s, ap length c.behind.ensures, length-drop from line)
+    omega (arith, ap length c.behind_gap-rest.ensures, length-drop (gap c.args.self.now.comments between s) s, ap length c.behind.ensures, length-drop from line)
 
 pub returns : goal.returns
 returns c =
     let self = c.args.self.now in
     let line = self.line.now in
-    let r = c.behind-gap-rest.result.now in
-    let t = c.first-token-token.result in
-    let e = rest self.comments (drop self.next line) c.behind.result.now r c.behind.ensures c.behind-gap-rest.ensures in
-    let p = pulled self.comments line self.next (length line - length r) _ r t c.part.result e refl c.part.ensures refl c.first-token-token.ensures.placed c.first-token-token.ensures.text c.first-token-token.ensures.at in
-    record { token = p.token; place = p.at; part = p.part; within = omega (arith, c.first-token-token.ensures.at); extent = p.extent; line = refl; comments = refl }
+    let r = c.behind_gap-rest.result.now in
+    let t = c.first_token-token.result in
+    let e = rest self.comments (drop self.next line) c.behind.result.now r c.behind.ensures c.behind_gap-rest.ensures in
+    let p = pulled self.comments line self.next (length line - length r) _ r t c.part.result e refl c.part.ensures refl c.first_token-token.ensures.placed c.first_token-token.ensures.text c.first_token-token.ensures.at in
+    record { token = p.token; place = p.at; part = p.part; within = omega (arith, c.first_token-token.ensures.at); extent = p.extent; line = refl; comments = refl }
