@@ -10,7 +10,7 @@ use Rattle.bitmaps.specs.Making.{due, new_words, new_model}
 use Rattle.bitmaps.specs.declared.Bitmaps.{Bitmaps}
 
 abbrev pub with_words : Bitmaps → List ℕ → Bitmaps
-with_words s ws = record { words = record { ref_ptr = s.words.ref_ptr; ghost_name = s.words.name; now = ws } }
+with_words s ws = record { words = record { ref_ptr = s.words.ref_ptr; ghost_name = s.words.ghost_name; now = ws } }
 
 abbrev pub rollback : Bitmaps → ℕ → Bitmaps
 rollback s k = with_words s (cut_words s.words.now k)

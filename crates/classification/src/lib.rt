@@ -9,7 +9,7 @@ ghost use Rattle.expressions.specs.Placed.{read_in};
 ghost use Rattle.scanning.specs.Modes.{open_after};
 ghost use Rattle.directives.specs.Gaps.{front};
 ghost use Rattle.directives.specs.Directives.{hash, alone, found_in};
-ghost use Rattle.sources.specs.Lines.{content as contentOf};
+ghost use Rattle.sources.specs.Lines.{content as content_of};
 ghost use Rattle.sources.specs.Classified.{condition_of, made, classified};
 ghost use Rattle.sources.specs.Answers.{steps_of, Classifies};
 ghost use Rattle.classification.specs.Parts.{conditional_at, checked_line, Tests, Makes};
@@ -122,7 +122,7 @@ fn directive_line<'a>(
     found: Found,
     number: usize,
 ) -> Result<Line<'a>, ExpressionFault>
-    ensures { Makes (read_in (contentOf line.now) number (made found.directive line.now (contentOf line.now) found.behind)) result }
+    ensures { Makes (read_in (content_of line.now) number (made found.directive line.now (content_of line.now) found.behind)) result }
 {
     let line = content(line);
     let behind = found.behind;

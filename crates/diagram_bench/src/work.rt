@@ -21,24 +21,24 @@ pub(crate) enum Work {
 }
 
 fn switch<S: Store>(store: &mut S, asked: &mut u64, i: u32) -> Result<u32, StoreFault>
-    requires { valid store.old }
-    ensures { valid store.new }
+    requires { S.valid store.old }
+    ensures { S.valid store.new }
 {
     *asked = asked.wrapping_add(1);
     store.switch(i)
 }
 
 fn both<S: Store>(store: &mut S, asked: &mut u64, a: u32, b: u32) -> Result<u32, StoreFault>
-    requires { valid store.old }
-    ensures { valid store.new }
+    requires { S.valid store.old }
+    ensures { S.valid store.new }
 {
     *asked = asked.wrapping_add(1);
     store.both(a, b)
 }
 
 fn either<S: Store>(store: &mut S, asked: &mut u64, a: u32, b: u32) -> Result<u32, StoreFault>
-    requires { valid store.old }
-    ensures { valid store.new }
+    requires { S.valid store.old }
+    ensures { S.valid store.new }
 {
     *asked = asked.wrapping_add(1);
     store.either(a, b)
@@ -46,8 +46,8 @@ fn either<S: Store>(store: &mut S, asked: &mut u64, a: u32, b: u32) -> Result<u3
 
 // The configurations that are not in a set.
 fn not<S: Store>(store: &mut S, asked: &mut u64, a: u32) -> Result<u32, StoreFault>
-    requires { valid store.old }
-    ensures { valid store.new }
+    requires { S.valid store.old }
+    ensures { S.valid store.new }
 {
     *asked = asked.wrapping_add(1);
     let top = store.top();
@@ -56,8 +56,8 @@ fn not<S: Store>(store: &mut S, asked: &mut u64, a: u32) -> Result<u32, StoreFau
 
 // Two switches are both on or both off.
 fn equal<S: Store>(store: &mut S, asked: &mut u64, i: u32, j: u32) -> Result<u32, StoreFault>
-    requires { valid store.old }
-    ensures { valid store.new }
+    requires { S.valid store.old }
+    ensures { S.valid store.new }
 {
     let a = switch(store, asked, i)?;
     let b = switch(store, asked, j)?;
@@ -69,8 +69,8 @@ fn equal<S: Store>(store: &mut S, asked: &mut u64, i: u32, j: u32) -> Result<u32
 
 // Switch i is equal to switch i + 12, for all i: the order of the switches is a bad one for it.
 fn equivalences<S: Store>(store: &mut S, asked: &mut u64) -> Result<u32, StoreFault>
-    requires { valid store.old }
-    ensures { valid store.new }
+    requires { S.valid store.old }
+    ensures { S.valid store.new }
 {
     let mut all = store.top();
     for i in 0..HALF {
@@ -87,8 +87,8 @@ fn count_switch<S: Store>(
     row: &mut [u32; ROW],
     on: u32,
 ) -> Result<(), StoreFault>
-    requires { valid store.old }
-    ensures { valid store.new }
+    requires { S.valid store.old }
+    ensures { S.valid store.new }
 {
     for j in (1..ROW).rev() {
         let more = both(store, asked, on, row[j - 1])?;
@@ -99,8 +99,8 @@ fn count_switch<S: Store>(
 
 // At least 13 of the 24 switches are on.
 fn majority<S: Store>(store: &mut S, asked: &mut u64) -> Result<u32, StoreFault>
-    requires { valid store.old }
-    ensures { valid store.new }
+    requires { S.valid store.old }
+    ensures { S.valid store.new }
 {
     let mut row = [store.none(); ROW];
     row[0] = store.top();
@@ -135,8 +135,8 @@ fn disjunction<S: Store>(
     dice: &mut Dice,
     first: u32,
 ) -> Result<u32, StoreFault>
-    requires { valid store.old }
-    ensures { valid store.new }
+    requires { S.valid store.old }
+    ensures { S.valid store.new }
 {
     let mut any = first;
     for _ in 0..dice.roll(3).saturating_add(1) {
@@ -148,8 +148,8 @@ fn disjunction<S: Store>(
 
 // An implication, an exclusion or a small disjunction.
 fn rule<S: Store>(store: &mut S, asked: &mut u64, dice: &mut Dice) -> Result<u32, StoreFault>
-    requires { valid store.old }
-    ensures { valid store.new }
+    requires { S.valid store.old }
+    ensures { S.valid store.new }
 {
     let kind = dice.roll(3);
     let a = switch(store, asked, dice.roll(SWITCHES))?;
@@ -167,8 +167,8 @@ fn rule<S: Store>(store: &mut S, asked: &mut u64, dice: &mut Dice) -> Result<u32
 
 // The conjunction of 60 rules. A rule that would leave nothing is left out.
 fn rules<S: Store>(store: &mut S, asked: &mut u64) -> Result<u32, StoreFault>
-    requires { valid store.old }
-    ensures { valid store.new }
+    requires { S.valid store.old }
+    ensures { S.valid store.new }
 {
     let mut dice = Dice { state: 88_675_123 };
     let mut all = store.top();
@@ -188,8 +188,8 @@ fn rules<S: Store>(store: &mut S, asked: &mut u64) -> Result<u32, StoreFault>
 }
 
 pub(crate) fn run<S: Store>(store: &mut S, asked: &mut u64, work: Work) -> Result<u32, StoreFault>
-    requires { valid store.old }
-    ensures { valid store.new }
+    requires { S.valid store.old }
+    ensures { S.valid store.new }
 {
     match work {
         Work::Equivalences => equivalences(store, asked),
@@ -200,8 +200,8 @@ pub(crate) fn run<S: Store>(store: &mut S, asked: &mut u64, work: Work) -> Resul
 
 // The same work so many times, what it took released after each.
 pub(crate) fn repeat<S: Store>(store: &mut S, work: Work, rounds: u32) -> Result<u64, StoreFault>
-    requires { valid store.old }
-    ensures { valid store.new }
+    requires { S.valid store.old }
+    ensures { S.valid store.new }
 {
     let mut asked = 0;
     for _ in 0..rounds {

@@ -157,8 +157,8 @@ struct Marks {
 }
 
 fn release<S: Store>(store: &mut S, mark: Option<Mark>)
-    requires { valid store.old }
-    ensures { valid store.new }
+    requires { S.valid store.old }
+    ensures { S.valid store.new }
 {
     match mark {
         Some(mark) => store.release(mark),
@@ -167,8 +167,8 @@ fn release<S: Store>(store: &mut S, mark: Option<Mark>)
 }
 
 fn keep<S: Store>(store: &mut S, mark: Option<Mark>)
-    requires { valid store.old }
-    ensures { valid store.new }
+    requires { S.valid store.old }
+    ensures { S.valid store.new }
 {
     match mark {
         Some(mark) => store.keep(mark),
@@ -177,7 +177,7 @@ fn keep<S: Store>(store: &mut S, mark: Option<Mark>)
 }
 
 fn open<S: Store>(store: &S, marks: Marks) -> Marks
-    requires { valid store.now }
+    requires { S.valid store.now }
 {
     let Marks { older, newer } = marks;
     match (older, newer) {
@@ -209,8 +209,8 @@ fn newest(marks: Marks) -> (Option<Mark>, Marks) {
 }
 
 fn change_marks<S: Store>(store: &mut S, marks: Marks, act: Act) -> Marks
-    requires { valid store.old }
-    ensures { valid store.new }
+    requires { S.valid store.old }
+    ensures { S.valid store.new }
 {
     match act {
         Act::Mark => open(store, marks),
@@ -239,8 +239,8 @@ fn change_marks<S: Store>(store: &mut S, marks: Marks, act: Act) -> Marks
 
 // What the store answers to an operation; 0 to a change of marks.
 fn ask<S: Store>(store: &mut S, act: Act) -> Result<u32, StoreFault>
-    requires { valid store.old }
-    ensures { valid store.new }
+    requires { S.valid store.old }
+    ensures { S.valid store.new }
 {
     match act {
         Act::Switch(i) => store.switch(i),
@@ -253,8 +253,8 @@ fn ask<S: Store>(store: &mut S, act: Act) -> Result<u32, StoreFault>
 
 // The answer to the last act, after all before it.
 fn replay<S: Store>(store: &mut S, acts: &[Act]) -> Result<u32, StoreFault>
-    requires { valid store.old }
-    ensures { valid store.new }
+    requires { S.valid store.old }
+    ensures { S.valid store.new }
 {
     let mut answer = Ok(0);
     let mut marks = Marks {
@@ -444,7 +444,7 @@ impl Model {
 
 // The set that a store holds under a number, asked configuration by configuration.
 fn table_in<S: Store>(store: &S, number: u32) -> Result<Table, StoreFault>
-    requires { valid store.now }
+    requires { S.valid store.now }
 {
     let mut table = [0; TABLE_WORDS];
     for k in 0..configurations(store.switches()) {
@@ -462,7 +462,7 @@ fn check_new<S: Store>(
     model: &mut Model,
     missing: &[Table],
 ) -> Result<(), Fail>
-    requires { valid store.now }
+    requires { S.valid store.now }
 {
     let from = model.held();
     assert_eq!(rt;
@@ -485,7 +485,7 @@ fn check_questions<S: Store>(
     model: &Model,
     dice: &mut Dice,
 ) -> Result<(), Fail>
-    requires { valid store.now }
+    requires { S.valid store.now }
 {
     let held = model.held();
     assert_eq!(rt; store.len(), held);
@@ -518,7 +518,7 @@ fn check_answer<S: Store>(
     answer: Result<u32, StoreFault>,
     tally: &mut Tally,
 ) -> Result<(), Fail>
-    requires { valid store.now }
+    requires { S.valid store.now }
 {
     let table = match model.result(act) {
         Ok(table) => table,
@@ -561,7 +561,7 @@ fn check_act<S: Store>(
     answer: Result<u32, StoreFault>,
     tally: &mut Tally,
 ) -> Result<(), Fail>
-    requires { valid store.now }
+    requires { S.valid store.now }
 {
     match act {
         Act::Switch(_) | Act::Join(_, _, _) => check_answer(

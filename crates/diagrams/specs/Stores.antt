@@ -17,7 +17,7 @@ use Rattle.diagrams.specs.Meaning.{everything, means}
 use Rattle.diagrams.specs.declared.Diagrams.{Diagrams}
 
 abbrev pub with_words : Diagrams → List ℕ → Diagrams
-with_words s ws = record { words = record { ref_ptr = s.words.ref_ptr; ghost_name = s.words.name; now = ws } }
+with_words s ws = record { words = record { ref_ptr = s.words.ref_ptr; ghost_name = s.words.ghost_name; now = ws } }
 
 abbrev pub rollback : Diagrams → ℕ → Diagrams
 rollback s k = with_words s (rolled s.words.now k)

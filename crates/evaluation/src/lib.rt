@@ -42,9 +42,9 @@ fn value<S: Store, E: Entries>(
     store: &mut S,
     stack: &mut Stack,
 ) -> Result<u32, StoreFault>
-    requires { valid store.old }
-    ensures advanced { Advanced valid model rollback store.old store.new }
-    ensures runs { Runs model rollback need (one (item_at line.now step) (lookup entries.now) known.none known.top (stacked stack.old.values stack.old.len)) store.old store.new result }
+    requires { S.valid store.old }
+    ensures advanced { Advanced S.valid S.model S.rollback store.old store.new }
+    ensures runs { Runs S.model S.rollback S.need (one (item_at line.now step) (E.lookup entries.now) known.none known.top (stacked stack.old.values stack.old.len)) store.old store.new result }
     ensures popped { stacked stack.new.values stack.new.len ≡ without (item_at line.now step) (stacked stack.old.values stack.old.len) }
     ensures len { stack.new.len ≤ stack.old.len }
 {
@@ -77,9 +77,9 @@ fn work_steps<S: Store, E: Entries>(
     known: Constants,
     store: &mut S,
 ) -> Result<u32, StoreFault>
-    requires { (valid store.old) × (length steps.now ≤ 255) }
-    ensures advanced { Advanced valid model rollback store.old store.new }
-    ensures runs { Runs model rollback need (machine (items line.now steps.now) (lookup entries.now) known.none known.top []) store.old store.new result }
+    requires { (S.valid store.old) × (length steps.now ≤ 255) }
+    ensures advanced { Advanced S.valid S.model S.rollback store.old store.new }
+    ensures runs { Runs S.model S.rollback S.need (machine (items line.now steps.now) (E.lookup entries.now) known.none known.top []) store.old store.new result }
 {
     let mut stack = Stack::new();
     for step in steps {
@@ -96,10 +96,10 @@ pub fn work_out<S: Store, E: Entries>(
     known: Constants,
     store: &mut S,
 ) -> Result<u32, StoreFault>
-    requires { valid store.old }
-    ensures advanced { Advanced valid model rollback store.old store.new }
-    ensures runs { (e : Expr) → steps_of condition.now ≡ postfix e → Runs model rollback need (worked e (lookup entries.now) known.none known.top) store.old store.new result }
-    ensures means { (e : Expr) → steps_of condition.now ≡ postfix e → Denotes (model store.old) known.none empty → Denotes (model store.old) known.top (model store.old).allowed → IfOk result (Valued (model store.old) (model store.new) (lookup entries.now) e) }
+    requires { S.valid store.old }
+    ensures advanced { Advanced S.valid S.model S.rollback store.old store.new }
+    ensures runs { (e : Expr) → steps_of condition.now ≡ postfix e → Runs S.model S.rollback S.need (worked e (E.lookup entries.now) known.none known.top) store.old store.new result }
+    ensures means { (e : Expr) → steps_of condition.now ≡ postfix e → Denotes (S.model store.old) known.none empty → Denotes (S.model store.old) known.top (S.model store.old).allowed → IfOk result (Valued (S.model store.old) (S.model store.new) (E.lookup entries.now) e) }
 {
     work_steps(condition.line(), condition.steps(), entries, known, store)
 }

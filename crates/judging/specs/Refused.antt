@@ -10,7 +10,7 @@ use Rattle.stores.specs.Outcome.{Op}
 use Rattle.stores.specs.declared.fault.StoreFault.{StoreFault}
 use Rattle.bitmaps.specs.Meaning.{means, one}
 use Rattle.bitmaps.specs.Making.{due}
-use Rattle.bitmaps.specs.Stores.{rollback as bitmapRollback, New}
+use Rattle.bitmaps.specs.Stores.{rollback as bitmap_rollback, New}
 use Rattle.bitmaps.specs.declared.Bitmaps.{Bitmaps}
 use Rattle.layers.specs.Layered.{layer_model, layer_need, layer_rollback}
 use Rattle.layers.specs.Making.{MakeAttempts}
@@ -48,5 +48,5 @@ TextRefused text ws f =
     ((g : RuleFault) × (f ≡ judging.Rules g) × (declared_in text ≡ Err (described g)))
     ⊎ (((d : Declared) × (g : StoreFault) × (f ≡ judging.Store g) × (declared_in text ≡ Ok d) × (due (length ws) (min (length d.names) (2 ^ 32 - 1)) ≡ Some g))
     ⊎ (((d : Declared) × (s : Bitmaps) × (declared_in text ≡ Ok d) × New ws (length d.names) s
-    × OverRefused (λ (b : Bitmaps). means b.words.now) bitmapRollback (λ b op. one op) d.names d.lines d.rest s f)
+    × OverRefused (λ (b : Bitmaps). means b.words.now) bitmap_rollback (λ b op. one op) d.names d.lines d.rest s f)
     ⊎ (f ≡ judging.OutOfMemory)))

@@ -26,10 +26,10 @@ use stores::Store;
 
 // How every switch stands among what the store allows. The store is as before.
 fn judge_switches<S: Store>(heap: Global, store: &mut S) -> Result<Vec<Standing>, JudgingFault>
-    requires { valid store.old }
+    requires { S.valid store.old }
     ensures same { store.new ≡ store.old }
-    ensures stand { IfOk result (λ v. AllStand (model store.old).allowed (model store.old).n v.items) }
-    ensures refused { IfErr result (SwitchRefused model rollback need store.old) }
+    ensures stand { IfOk result (λ v. AllStand (S.model store.old).allowed (S.model store.old).n v.items) }
+    ensures refused { IfErr result (SwitchRefused S.model S.rollback S.need store.old) }
 {
     let mut standings = Vec::new(heap);
     for i in 0..store.switches() {
@@ -46,9 +46,9 @@ pub fn judge_over<S: Store + Drop>(
     lines: usize,
     mut store: S,
 ) -> Result<(Vec<Standing>, u32), JudgingFault>
-    requires { valid store }
-    ensures judged { IfOk result (λ j. Judged (allowed_by (model store).allowed (texts names.now) (lines_of text.now)) (model store).n j.0.items j.1) }
-    ensures refused { IfErr result (OverRefused model rollback need (texts names.now) lines text.now store) }
+    requires { S.valid store }
+    ensures judged { IfOk result (λ j. Judged (allowed_by (S.model store).allowed (texts names.now) (lines_of text.now)) (S.model store).n j.0.items j.1) }
+    ensures refused { IfErr result (OverRefused S.model S.rollback S.need (texts names.now) lines text.now store) }
 {
     let rules = read_rules(names, text, lines, &mut store)?;
     let mut layer = match Layer::make(store, rules.allowed) {

@@ -32,9 +32,9 @@ pub struct MakeError<S> {
 impl<S: Store> Layer<S> {
     // A layer over `store`, which allows those of the store's allowed configurations that are in its set `a`.
     pub fn make(mut store: S, a: u32) -> Result<Layer<S>, MakeError<S>>
-        requires { valid store }
-        ensures attempts { MakeAttempts model rollback need store a result }
-        ensures makes { Makes valid model rollback store a result }
+        requires { S.valid store }
+        ensures attempts { MakeAttempts S.model S.rollback S.need store a result }
+        ensures makes { Makes S.valid S.model S.rollback store a result }
     {
         match preparation::prepare(&mut store, a) {
             Ok(prepared) => Ok(Layer::over(store, prepared)),
@@ -44,7 +44,7 @@ impl<S: Store> Layer<S> {
 
     // Cannot fail, since the store is still as preparing left it.
     pub(crate) fn over(store: S, prepared: Prepared) -> Layer<S>
-        requires { (valid store) × (Fits (model store) prepared) }
+        requires { (S.valid store) × (Fits (S.model store) prepared) }
         ensures { result ≡ record { below = store; prepared = prepared } }
     {
         Layer {
@@ -55,9 +55,9 @@ impl<S: Store> Layer<S> {
 
     // A second layer over this one, from a set `a` of this one's.
     pub fn pile(self, a: u32) -> Result<Layer<Layer<S>>, MakeError<Layer<S>>>
-        requires { LayerValid valid model self }
-        ensures attempts { MakeAttempts (layer_model model) (layer_rollback rollback) (layer_need need) self a result }
-        ensures makes { Makes (LayerValid valid model) (layer_model model) (layer_rollback rollback) self a result }
+        requires { LayerValid S.valid S.model self }
+        ensures attempts { MakeAttempts (layer_model S.model) (layer_rollback S.rollback) (layer_need S.need) self a result }
+        ensures makes { Makes (LayerValid S.valid S.model) (layer_model S.model) (layer_rollback S.rollback) self a result }
     {
         Layer::make(self, a)
     }

@@ -14,8 +14,8 @@ pub struct Prepared {
 
 // Holds no mark, so `?` may leave it; what was appended before a refusal is then still held.
 fn work_out<S: Store>(store: &mut S, all: u32, a: u32) -> Result<Prepared, LayerFault>
-    requires { valid store.old }
-    ensures { WorksOut valid model rollback need store.old store.new all a result }
+    requires { S.valid store.old }
+    ensures { WorksOut S.valid S.model S.rollback S.need store.old store.new all a result }
 {
     let top = store.both(all, a)?;
     if store.find(top)?.is_none() {
@@ -37,10 +37,10 @@ fn work_out<S: Store>(store: &mut S, all: u32, a: u32) -> Result<Prepared, Layer
 
 // Prepares a layer over `store` whose rules allow set `a`. Refused, the store is as it was.
 pub fn prepare<S: Store>(store: &mut S, a: u32) -> Result<Prepared, LayerFault>
-    requires { valid store.old }
-    ensures valid { valid store.new }
-    ensures attempts { Attempts model rollback need store.old store.new a result }
-    ensures prepares { Prepares valid model rollback store.old store.new a result }
+    requires { S.valid store.old }
+    ensures valid { S.valid store.new }
+    ensures attempts { Attempts S.model S.rollback S.need store.old store.new a result }
+    ensures prepares { Prepares S.valid S.model S.rollback store.old store.new a result }
 {
     let mark = store.mark();
     let all = store.top();

@@ -3,7 +3,7 @@ ghost use Rattle.std.specs.Prelude.{◌≡◌, ◌+◌, ◌<◌, ◌≤◌, List
 ghost use Rattle.text.specs.Tokens.{tokens_at};
 ghost use Rattle.text.specs.Pulling.{place};
 ghost use Rattle.expressions.specs.declared.fault.ExpressionFault.TheVariants.{NameDue, WrongToken, BareName, TooDeep};
-ghost use Rattle.expressions.specs.Grammar.{Expr, is_and, is_or, is_close, closing, name_due, term as termOf, ands_of, expr as exprOf, parsed};
+ghost use Rattle.expressions.specs.Grammar.{Expr, is_and, is_or, is_close, closing, name_due, term as term_of, ands_of, expr as expr_of, parsed};
 ghost use Rattle.expressions.specs.Conditions.{Item, item_at, kinds, postfix};
 ghost use Rattle.parser.specs.Parsing.{next_is, is_open, name_first, none_left, ahead, line_of, Ready, Run, Advanced, Outcome, Completed};
 
@@ -206,7 +206,7 @@ impl<'a> Parser<'a> {
     #[cycle(ands_expression_term)]
     fn term(&mut self, left: usize) -> Result<(), ExpressionFault>
         requires { Ready self.old }
-        ensures { Outcome postfix self.old self.new result (termOf left (kinds (ahead self.old))) }
+        ensures { Outcome postfix self.old self.new result (term_of left (kinds (ahead self.old))) }
     {
         match self.token {
             Token::Zero(_) => {
@@ -266,7 +266,7 @@ impl<'a> Parser<'a> {
     #[cycle(ands_expression_term)]
     fn expression(&mut self, left: usize) -> Result<(), ExpressionFault>
         requires { Ready self.old }
-        ensures { Outcome postfix self.old self.new result (exprOf left (kinds (ahead self.old))) }
+        ensures { Outcome postfix self.old self.new result (expr_of left (kinds (ahead self.old))) }
     {
         self.ands(left)?;
         while self.at_or() {

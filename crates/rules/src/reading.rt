@@ -3,7 +3,7 @@ ghost use Rattle.std.specs.Prelude.{◌≡◌, ℕ, ◌<◌, false, ◌&&◌, Li
 ghost use Rattle.stores.specs.Outcome.{Advanced};
 ghost use Rattle.names.specs.Names.{texts, distinct};
 ghost use Rattle.evaluation.specs.Worked.{steps_of};
-ghost use Rattle.rules.specs.Read.{names as names_of, lookup as lookupOf};
+ghost use Rattle.rules.specs.Read.{names as names_of, lookup as lookup_of};
 ghost use Rattle.rules.specs.Turns.{blamed_on, Goes, Turned, seen, known_item, all_known, foreign_line};
 ghost use Rattle.stores.specs.Steps.{Runs, done};
 ghost use Rattle.lines.specs.Lines.{lines_of};
@@ -93,9 +93,9 @@ fn apply_rule<S: Store>(
     acc: u32,
     store: &mut S,
 ) -> Result<u32, RuleFault>
-    requires { valid store.old }
-    ensures advanced { Advanced valid model rollback store.old store.new }
-    ensures goes { Goes model rollback need (λ next. rule (names_of reading.entry) (lookupOf reading.entry) reading.entry.known.none reading.entry.known.top acc number next (read_in line.now number (condition_at false line.now from))) store.old store.new result }
+    requires { S.valid store.old }
+    ensures advanced { Advanced S.valid S.model S.rollback store.old store.new }
+    ensures goes { Goes S.model S.rollback S.need (λ next. rule (names_of reading.entry) (lookup_of reading.entry) reading.entry.known.none reading.entry.known.top acc number next (read_in line.now number (condition_at false line.now from))) store.old store.new result }
 {
     let rule = condition(line, from, false, number)?;
     if !all_declared(&rule, reading.switches.names) {
@@ -126,9 +126,9 @@ fn read_line<S: Store>(
     acc: u32,
     store: &mut S,
 ) -> Result<Turn, RuleFault>
-    requires { valid store.old }
-    ensures advanced { Advanced valid model rollback store.old store.new }
-    ensures turned { (behind : List ℕ) → Turned model rollback need (by_kind (kind_of line.now) (names_of reading.entry) (lookupOf reading.entry) reading.entry.known.none reading.entry.known.top acc number (lined line.now behind)) acc behind store.old store.new result }
+    requires { S.valid store.old }
+    ensures advanced { Advanced S.valid S.model S.rollback store.old store.new }
+    ensures turned { (behind : List ℕ) → Turned S.model S.rollback S.need (by_kind (kind_of line.now) (names_of reading.entry) (lookup_of reading.entry) reading.entry.known.none reading.entry.known.top acc number (lined line.now behind)) acc behind store.old store.new result }
 {
     match kind_of(line) {
         LineKind::Blank => Ok(Turn::Next(acc)),
@@ -155,9 +155,9 @@ fn read_lines<'a, S: Store>(
     lines: usize,
     store: &mut S,
 ) -> Result<Rules<'a>, RuleFault>
-    requires { valid store.old }
-    ensures advanced { Advanced valid model rollback store.old store.new }
-    ensures runs { Runs model rollback need (ruling (names_of reading.entry) (lookupOf reading.entry) reading.entry.known.none reading.entry.known.top reading.entry.known.top lines (lines_of text.now)) store.old store.new (seen answer_of result) }
+    requires { S.valid store.old }
+    ensures advanced { Advanced S.valid S.model S.rollback store.old store.new }
+    ensures runs { Runs S.model S.rollback S.need (ruling (names_of reading.entry) (lookup_of reading.entry) reading.entry.known.none reading.entry.known.top reading.entry.known.top lines (lines_of text.now)) store.old store.new (seen answer_of result) }
 {
     let mut allowed = reading.known.top;
     let mut number = lines;
@@ -179,9 +179,9 @@ fn read_lines<'a, S: Store>(
 
 // The numbers of all switches, in order; as many as the store has.
 fn switch_numbers<S: Store>(store: &mut S) -> Result<[u32; MAX_SWITCHES], RuleFault>
-    requires { valid store.old }
-    ensures advanced { Advanced valid model rollback store.old store.new }
-    ensures runs { Runs model rollback need (switching (model store.old).n 0 [] done) store.old store.new (seen (take (model store.old).n) result) }
+    requires { S.valid store.old }
+    ensures advanced { Advanced S.valid S.model S.rollback store.old store.new }
+    ensures runs { Runs S.model S.rollback S.need (switching (S.model store.old).n 0 [] done) store.old store.new (seen (take (S.model store.old).n) result) }
 {
     let mut numbers = [0; MAX_SWITCHES];
     for i in 0..store.switches() {
@@ -198,9 +198,9 @@ fn gather<'a, S: Store>(
     known: Constants,
     store: &mut S,
 ) -> Result<Rules<'a>, RuleFault>
-    requires valid { valid store.old }
-    ensures advanced { Advanced valid model rollback store.old store.new }
-    ensures runs { Runs model rollback need (ruled (texts names.now) (model store.old).n known.none known.top lines text.now) store.old store.new (seen answer_of result) }
+    requires valid { S.valid store.old }
+    ensures advanced { Advanced S.valid S.model S.rollback store.old store.new }
+    ensures runs { Runs S.model S.rollback S.need (ruled (texts names.now) (S.model store.old).n known.none known.top lines text.now) store.old store.new (seen answer_of result) }
 {
     let count = store.switches() as usize;
     let numbers = switch_numbers(store)?;
@@ -229,10 +229,10 @@ pub fn read_rules<'a, S: Store>(
     lines: usize,
     store: &mut S,
 ) -> Result<Rules<'a>, RuleFault>
-    requires { valid store.old }
-    ensures advanced { Advanced valid model rollback store.old store.new }
-    ensures outcome { RulesOutcome model rollback need (texts names.now) lines text.now store.old store.new result }
-    ensures allowed { IfOk result (λ rules. Denotes (model store.new) rules.allowed (allowed_by (model store.old).allowed (texts names.now) (lines_of text.now))) }
+    requires { S.valid store.old }
+    ensures advanced { Advanced S.valid S.model S.rollback store.old store.new }
+    ensures outcome { RulesOutcome S.model S.rollback S.need (texts names.now) lines text.now store.old store.new result }
+    ensures allowed { IfOk result (λ rules. Denotes (S.model store.new) rules.allowed (allowed_by (S.model store.old).allowed (texts names.now) (lines_of text.now))) }
 {
     if !names_fit(names, store.switches()) {
         return Err(RuleFault::Names);

@@ -22,7 +22,7 @@ use Rattle.directives.specs.declared.Form.TheVariants.{Expression, Defined, Unde
 use Rattle.directives.specs.declared.Directive.{Directive}
 use Rattle.directives.specs.declared.Directive.TheVariants.{If, Elif, Else, Endif, Define, Undef}
 use Rattle.directives.specs.Gaps.{front}
-use Rattle.directives.specs.Directives.{past, hash, alone, named as fromName, directive_in, conditional, final}
+use Rattle.directives.specs.Directives.{past, hash, alone, named as from_name, directive_in, conditional, final}
 use Rattle.sources.specs.Lines.{content}
 use Rattle.sources.specs.Faults.{of_lines}
 
@@ -75,7 +75,7 @@ made Undef l s k = changed (λ x. name x false l) (only_name true s k)
 
 abbrev pub kind : Option Directive → ℕ → Bytes → Result Line Refusal
 kind None n l = Ok (plain l)
-kind (Some d) n l = read_in (content l) n (made d l (content l) (length l - length (past (fromName l))))
+kind (Some d) n l = read_in (content l) n (made d l (content l) (length l - length (past (from_name l))))
 
 abbrev pub classified : Bool → Bool → ℕ → Bytes → Result Line Refusal
 classified last c n l =

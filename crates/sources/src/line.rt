@@ -2,7 +2,7 @@
 ghost use Rattle.std.specs.Prelude.{◌≡◌, ◌<◌, ◌∷◌, ◌++◌, length, if◌then◌else◌, Ok, Err};
 ghost use Rattle.lines.specs.Lines.{until_feed};
 ghost use Rattle.sources.specs.declared.fault.LineFault.TheVariants.{TooLarge};
-ghost use Rattle.sources.specs.Lines.{lines, content as contentOf, is_too_large};
+ghost use Rattle.sources.specs.Lines.{lines, content as content_of, is_too_large};
 
 use crate::fault::LineFault;
 use expressions::condition::Condition;
@@ -38,7 +38,7 @@ pub fn next_line(text: &[u8]) -> (&[u8], &[u8])
 
 // What stands before the first line feed: a line without its own.
 pub fn content(line: &[u8]) -> &[u8]
-    ensures { result.now ≡ contentOf line.now }
+    ensures { result.now ≡ content_of line.now }
 {
     first_line(line).0
 }

@@ -14,9 +14,9 @@ use stores::fault::StoreFault;
 use verdict::Standing;
 
 fn judge<S: Store>(store: &mut S, top: u32, i: u32) -> Result<Standing, StoreFault>
-    requires { valid store.old }
-    ensures advanced { Advanced valid model rollback store.old store.new }
-    ensures runs { Runs model rollback need (asking top i) store.old store.new result }
+    requires { S.valid store.old }
+    ensures advanced { Advanced S.valid S.model S.rollback store.old store.new }
+    ensures runs { Runs S.model S.rollback S.need (asking top i) store.old store.new result }
 {
     let with = store.switch(i)?;
     if store.find(with)?.is_none() {
@@ -31,10 +31,10 @@ fn judge<S: Store>(store: &mut S, top: u32, i: u32) -> Result<Standing, StoreFau
 
 // How switch `i` stands. The store is as before, whether answered or refused.
 pub fn standing<S: Store>(store: &mut S, i: u32) -> Result<Standing, StoreFault>
-    requires { valid store.old }
+    requires { S.valid store.old }
     ensures same { store.new ≡ store.old }
-    ensures stands { IfOk result (Stands (model store.old).allowed i) }
-    ensures asked { (top : ℕ) × (top < (model store.old).floor) × (set_at (model store.old) top ≡ (model store.old).allowed) × StandingOutcome model rollback need top i store.old result }
+    ensures stands { IfOk result (Stands (S.model store.old).allowed i) }
+    ensures asked { (top : ℕ) × (top < (S.model store.old).floor) × (set_at (S.model store.old) top ≡ (S.model store.old).allowed) × StandingOutcome S.model S.rollback S.need top i store.old result }
 {
     let top = store.top();
     let mark = store.mark();

@@ -8,8 +8,8 @@ returns-in_err-tail c =
     let f = finds l _ (c.from_residual.ensures ∙ found_none l c.after_gap.result.now c.after_gap.ensures.value c.in_err-tail.ensures) in
     record { value = f.value; law = f.law; rest = f.rest }
 
-pub overflow-sub-text : goal.overflow-sub-text
-overflow-sub-text c = past_length c.after_gap-text.result.now c.after_name-rest.result.now c.after_name-rest.ensures
+pub overflow_sub-text : goal.overflow_sub-text
+overflow_sub-text c = past_length c.after_gap-text.result.now c.after_name-rest.result.now c.after_name-rest.ensures
 
 pub returns-in_err-directive : goal.returns-in_err-directive
 returns-in_err-directive c =
@@ -21,8 +21,8 @@ returns-in_err-directive c =
     let f = finds l _ (c.from_residual-in_err-directive.ensures ∙ none) in
     record { value = f.value; law = f.law; rest = f.rest }
 
-pub overflow-sub-result : goal.overflow-sub-result
-overflow-sub-result c =
+pub overflow_sub-result : goal.overflow_sub-result
+overflow_sub-result c =
     rest_within c.args.line.now c.after_gap.result.now c.in_ok-tail.tail.now c.after_gap-text.result.now c.after_name-rest.result.now
     c.after_gap.ensures.value c.in_ok-tail.ensures c.after_gap-text.ensures.value c.after_name-rest.ensures
 

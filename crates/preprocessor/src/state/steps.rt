@@ -4,7 +4,7 @@ ghost use Rattle.text.specs.Tokens.{Bytes};
 ghost use Rattle.names.specs.Names.{texts, index_of};
 ghost use Rattle.sources.specs.Classified.{Line as SourceLine, raw_of};
 ghost use Rattle.sources.specs.Answers.{shown, seen};
-ghost use Rattle.preprocessor.specs.Plain.{State as PlainState, active as activeIn, step as stepped, popped, kept, defined_in, began};
+ghost use Rattle.preprocessor.specs.Plain.{State as PlainState, active as active_in, step as stepped, popped, kept, defined_in, began};
 ghost use Rattle.preprocessor.specs.Represented.{chains_of, Represents, Ready, marked, entered, continued};
 
 use crate::state::{Frame, MAX_CHAINS, MAX_NAMES, State};
@@ -33,7 +33,7 @@ impl State {
 
     // Are the lines of the innermost block active?
     pub fn is_active(&self) -> bool
-        ensures { result ≡ activeIn (chains_of self.now) }
+        ensures { result ≡ active_in (chains_of self.now) }
     {
         self.depth == 0 || self.frames[self.depth - 1].active
     }
@@ -50,7 +50,7 @@ impl State {
 
     // `define` or `undef` of `name`, which acts only where active. Without an entry there is nothing to note.
     fn define(&mut self, names: &[&[u8]], name: &[u8], value: bool)
-        ensures flags { self.new.flags ≡ (if activeIn (chains_of self.old) then marked (index_of (texts names.now) name.now) value self.old.flags else self.old.flags) }
+        ensures flags { self.new.flags ≡ (if active_in (chains_of self.old) then marked (index_of (texts names.now) name.now) value self.old.flags else self.old.flags) }
         ensures chains { chains_of self.new ≡ chains_of self.old }
     {
         if !self.is_active() {

@@ -7,8 +7,8 @@ pub bounds-words-start : goal.bounds-words-start
 bounds-words-start c =
     omega (arith, c.start.ensures, c.requires.place.1, c.requires.held.within, start_before c.args.n c.args.j (get_or c.args.words.now 1 0) c.requires.place.0)
 
-pub offset-bounds-words-start : goal.offset-bounds-words-start
-offset-bounds-words-start c =
+pub offset_bounds-words-start : goal.offset_bounds-words-start
+offset_bounds-words-start c =
     record { fits = omega (arith, c.start.ensures, c.requires.place.1, c.requires.held.within, start_before c.args.n c.args.j (get_or c.args.words.now 1 0) c.requires.place.0) }
 
 pub returns : goal.returns

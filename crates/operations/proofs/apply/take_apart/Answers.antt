@@ -30,8 +30,8 @@ falls ws a b m s ha hb two e =
     (λ (t : level cs a ≢ suc (m - 1)). let u = fb.2 (omega arith) in (omega (arith, u.0), omega (arith, u.1)))
     (cases_eq (level cs a) (suc (m - 1)))
 
-pub overflow-sub-switch : goal.overflow-sub-switch
-overflow-sub-switch c =
+pub overflow_sub-switch : goal.overflow_sub-switch
+overflow_sub-switch c =
     let t = top c.args.words.now c.args.a c.args.b c.max-switch.result c.requires.0 c.requires.1.0 c.requires.1.1.0 c.requires.1.1.1
     (omega (arith, c.max-switch.ensures, c.level_of.ensures.is, c.level_of-2.ensures.is)) in
     t.0

@@ -2,8 +2,8 @@ use Rattle.std.proofs.Common.{◌-◌, length, arith}
 use Rattle.sources.proofs.Lines.{cut_first, cut_whole, cut_content, behind_within}
 use Rattle.sources.proofs.line.next_line.Goals as goal
 
-pub overflow-sub-result : goal.overflow-sub-result
-overflow-sub-result c = behind_within c.args.text.now c.first_line.result.1.now c.first_line.ensures.behind
+pub overflow_sub-result : goal.overflow_sub-result
+overflow_sub-result c = behind_within c.args.text.now c.first_line.result.1.now c.first_line.ensures.behind
 
 pub returns : goal.returns
 returns c =

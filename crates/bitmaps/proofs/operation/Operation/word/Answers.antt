@@ -27,4 +27,4 @@ returns-in-Less c =
     let x = c.slot_word-in-Less in
     let y = c.slot_word-in-Less-2 in
     same_operation c.in-Less.is
-    (less_new c.args.n c.args.words.now c.args.t x.result y.result c.in-Less.a c.in-Less.b x.ensures.value y.ensures.value x.ensures.unused y.type-inv)
+    (less_new c.args.n c.args.words.now c.args.t x.result y.result c.in-Less.a c.in-Less.b x.ensures.value y.ensures.value x.ensures.unused y.type_inv)

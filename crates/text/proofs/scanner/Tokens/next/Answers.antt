@@ -7,8 +7,8 @@ use Rattle.text.proofs.scanner.Tokens.next.Goals as goal
 rest : (c : Bool) (s b r : Bytes) → b ≡ s → r ≡ drop (gap c between b) b → r ≡ drop (gap c between s) s
 rest c s b r e f = f ∙ ap (λ (q : Bytes). drop (gap c between q) q) e
 
-pub overflow-sub-start : goal.overflow-sub-start
-overflow-sub-start c =
+pub overflow_sub-start : goal.overflow_sub-start
+overflow_sub-start c =
     let line = c.args.self.now.line.now in
     let from = c.args.self.now.next in
     let s = c.behind.result.now in
