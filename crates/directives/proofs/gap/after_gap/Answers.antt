@@ -22,8 +22,8 @@ returns-in_default c =
     let s = stopped c.args.line.now t c.loop-rest.invariant b n in
     record { value = s.value; law = s.law; only = s.only }
 
-pub returns-in-default-2 : goal.returns-in-default-2
-returns-in-default-2 c =
+pub returns-in_default-2 : goal.returns-in_default-2
+returns-in_default-2 c =
     let t = c.loop-rest.rest.now in
     let b : 1 ≤ length t → blank (get_or t 0 0) ≡ false = search rules in
     let n : get_or t 0 0 ≡ 47 → get_or t 1 0 ≡ 42 → ⊥ = search rules in

@@ -21,8 +21,8 @@ returns-in-47-2 c =
 pub loop-rest-preserved : goal.loop-rest-preserved
 loop-rest-preserved c = gap_blank c.args.comments c.loop-rest.rest.now (search rules) (sym c.if-blank_byte.ensures) ∙ c.loop-rest.invariant
 
-pub returns-in-default-2 : goal.returns-in-default-2
-returns-in-default-2 c =
+pub returns-in_default-2 : goal.returns-in_default-2
+returns-in_default-2 c =
     let s = c.loop-rest.rest.now in
     let b : 1 ≤ length s → blank (get_or s 0 0) ≡ false = search rules in
     let m : c.args.comments ≡ true → get_or s 0 0 ≡ 47 → get_or s 1 0 ≡ 42 → ⊥ = search rules in
