@@ -3,11 +3,11 @@ use Rattle.directives.specs.Gaps.{blank}
 use Rattle.directives.proofs.Skips.{skip_comment, skip_blank, stopped}
 use Rattle.directives.proofs.gap.after_gap.Goals as goal
 
-pub loop-rest-smaller-in-42-1 : goal.loop-rest-smaller-in-42·
+pub loop-rest-smaller-in-42-1 : goal.loop-rest-smaller-in-42-1
 loop-rest-smaller-in-42-1 c =
     (skip_comment c.loop-rest.rest.now c.after_comment-rest.result.now (search rules) (search rules) (search rules) c.after_comment-rest.ensures).1
 
-pub loop-rest-preserved-in-42-1 : goal.loop-rest-preserved-in-42·
+pub loop-rest-preserved-in-42-1 : goal.loop-rest-preserved-in-42-1
 loop-rest-preserved-in-42-1 c =
     (skip_comment c.loop-rest.rest.now c.after_comment-rest.result.now (search rules) (search rules) (search rules) c.after_comment-rest.ensures).0 ∙ c.loop-rest.invariant
 

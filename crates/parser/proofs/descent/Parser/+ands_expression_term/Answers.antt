@@ -30,8 +30,8 @@ term-returns-then-left-eq0 t c =
     wrong c.args.left c.args.self.now c.args.self.now not c.in-Not.field-0.at 16 c.too_deep.result c.requires (ap placed c.in-Not.is)
     (deep_not c.args.left (omega arith)) (ap described c.too_deep.ensures)
 
-pub term-returns-in_err-term : goal.term-returns-in_err-term
-term-returns-in_err-term t c =
+pub term-returns-in_err-term-in-Not : goal.term-returns-in_err-term-in-Not
+term-returns-in_err-term-in-Not t c =
     not_refused c.args.left c.args.self.now c.advance-in-Not.new.self c.in-Not.field-0.at (omega arith) (ap placed c.in-Not.is) c.advance-in-Not.ensures
     c.term.new.self c.from_residual.result c.in_err-term.field-0.0 (exits c.from_residual.result c.in_err-term.field-0.0 c.from_residual.ensures.1) c.in_err-term.ensures
 
@@ -39,12 +39,12 @@ pub term-emit-requires-in-Not : goal.term-emit-requires-in-Not
 term-emit-requires-in-Not t c =
     let z = term (c.args.left - 1) (kinds (ahead c.advance-in-Not.new.self)) in
     record {
-      ready = still_ready postfix c.advance-in-Not.new.self c.term.new.self z tt c.in_ok-term.ensures;
-      room = room_later c.args.self.now c.advance-in-Not.new.self c.term.new.self z tt c.requires c.advance-in-Not.ensures c.in_ok-term.ensures;
+      ready = still_ready postfix c.advance-in-Not.new.self c.term.new.self z tt c.in_ok-term-in-Not.ensures;
+      room = room_later c.args.self.now c.advance-in-Not.new.self c.term.new.self z tt c.requires c.advance-in-Not.ensures c.in_ok-term-in-Not.ensures;
     }
 
-pub term-returns-in_ok-term : goal.term-returns-in_ok-term
-term-returns-in_ok-term t c =
+pub term-returns-in_ok-term-in-Not : goal.term-returns-in_ok-term-in-Not
+term-returns-in_ok-term-in-Not t c =
     negated c.args.left c.args.self.now c.advance-in-Not.new.self c.in-Not.field-0.at (omega arith) (ap placed c.in-Not.is) c.advance-in-Not.ensures
     c.term.new.self c.emit-in-Not.new.self tt c.in_ok-term.ensures c.emit-in-Not.ensures.run c.emit-in-Not.ensures.ready
 
@@ -53,13 +53,13 @@ term-returns-then-left-eq0-2 t c =
     wrong c.args.left c.args.self.now c.args.self.now opened c.in-Open.field-0.at 16 c.too_deep-then-left-eq0-2.result c.requires (ap placed c.in-Open.is)
     (deep_open c.args.left (omega arith)) (ap described c.too_deep-then-left-eq0-2.ensures)
 
-pub term-returns-in_err-expression : goal.term-returns-in_err-expression
-term-returns-in_err-expression t c =
+pub term-returns-in_err-expression-in-Open : goal.term-returns-in_err-expression-in-Open
+term-returns-in_err-expression-in-Open t c =
     open_refused c.args.left c.args.self.now c.advance-in-Open.new.self c.in-Open.field-0.at (omega arith) (ap placed c.in-Open.is) c.advance-in-Open.ensures
     c.expression.new.self c.from_residual-in_err-expression.result c.in_err-expression.field-0.0 (exits c.from_residual-in_err-expression.result c.in_err-expression.field-0.0 c.from_residual-in_err-expression.ensures.1) c.in_err-expression.ensures
 
-pub term-returns-in_ok-expression : goal.term-returns-in_ok-expression
-term-returns-in_ok-expression t c =
+pub term-returns-in_ok-expression-in-Open : goal.term-returns-in_ok-expression-in-Open
+term-returns-in_ok-expression-in-Open t c =
     grouped c.args.left c.args.self.now c.advance-in-Open.new.self c.in-Open.field-0.at (omega arith) (ap placed c.in-Open.is) c.advance-in-Open.ensures
     c.expression.new.self c.close.new.self tt c.close.result c.in_ok-expression.ensures c.close.ensures
 
