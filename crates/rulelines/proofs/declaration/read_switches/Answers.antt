@@ -10,7 +10,7 @@ use Rattle.rulelines.proofs.declaration.read_switches.Goals as goal
 
 pub returns-in_err-push-in-Switch : goal.returns-in_err-push-in-Switch
 returns-in_err-push-in-Switch c =
-    let p = err_from_is_err_and c.from_residual-in_err-push.result c.from_residual-in_err-push.ensures.1 in
+    let p = err_from_is_err_and c.from_residual-in_err-push-in-Switch.result c.from_residual-in_err-push-in-Switch.ensures.1 in
     subst (λ (r : Result Declarations DeclarationFault). DeclarationsOutcome c.args.text.now r) (sym (p.1 ∙ ap Err p.2)) tt
 
 pub loop-line-preserved : goal.loop-line-preserved
@@ -20,7 +20,7 @@ loop-line-preserved c =
     let names = vec_items l.names in
     let x = c.in_ok-name-in-Switch.name in
     sym (switch_turn (texts names) l.lines c.saturating_add-number.result l.rest.now f.result.0.now f.result.1.now (f.ensures.first (not_empty (length l.rest.now) c.loop-line-test.ensures)) f.ensures.content f.ensures.behind c.saturating_add-number.ensures
-    c.in-Switch.from x.now (texts c.as_slice.result.now) (texts (vec_items c.push.new.self)) c.in-Switch.ensures (ap texts c.as_slice.ensures.value) c.in_ok-name-in-Switch.ensures (texts_more names (vec_items c.push.new.self) x c.in_ok-push.ensures.items))
+    c.in-Switch.from x.now (texts c.as_slice.result.now) (texts (vec_items c.push.new.self)) c.in-Switch.ensures (ap texts c.as_slice.ensures.value) c.in_ok-name-in-Switch.ensures (texts_more names (vec_items c.push.new.self) x c.in_ok-push-in-Switch.ensures.items))
     ∙ l.invariant
 
 pub loop-line-preserved-in-Blank : goal.loop-line-preserved-in-Blank

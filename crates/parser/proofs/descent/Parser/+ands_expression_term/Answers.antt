@@ -33,7 +33,7 @@ term-returns-then-left-eq0 t c =
 pub term-returns-in_err-term-in-Not : goal.term-returns-in_err-term-in-Not
 term-returns-in_err-term-in-Not t c =
     not_refused c.args.left c.args.self.now c.advance-in-Not.new.self c.in-Not.field-0.at (omega arith) (ap placed c.in-Not.is) c.advance-in-Not.ensures
-    c.term.new.self c.from_residual.result c.in_err-term.field-0.0 (exits c.from_residual.result c.in_err-term.field-0.0 c.from_residual.ensures.1) c.in_err-term.ensures
+    c.term.new.self c.from_residual.result c.in_err-term-in-Not.field-0.0 (exits c.from_residual.result c.in_err-term-in-Not.field-0.0 c.from_residual.ensures.1) c.in_err-term-in-Not.ensures
 
 pub term-emit-requires-in-Not : goal.term-emit-requires-in-Not
 term-emit-requires-in-Not t c =
@@ -46,7 +46,7 @@ term-emit-requires-in-Not t c =
 pub term-returns-in_ok-term-in-Not : goal.term-returns-in_ok-term-in-Not
 term-returns-in_ok-term-in-Not t c =
     negated c.args.left c.args.self.now c.advance-in-Not.new.self c.in-Not.field-0.at (omega arith) (ap placed c.in-Not.is) c.advance-in-Not.ensures
-    c.term.new.self c.emit-in-Not.new.self tt c.in_ok-term.ensures c.emit-in-Not.ensures.run c.emit-in-Not.ensures.ready
+    c.term.new.self c.emit-in-Not.new.self tt c.in_ok-term-in-Not.ensures c.emit-in-Not.ensures.run c.emit-in-Not.ensures.ready
 
 pub term-returns-then-left-eq0-2 : goal.term-returns-then-left-eq0-2
 term-returns-then-left-eq0-2 t c =
@@ -56,12 +56,12 @@ term-returns-then-left-eq0-2 t c =
 pub term-returns-in_err-expression-in-Open : goal.term-returns-in_err-expression-in-Open
 term-returns-in_err-expression-in-Open t c =
     open_refused c.args.left c.args.self.now c.advance-in-Open.new.self c.in-Open.field-0.at (omega arith) (ap placed c.in-Open.is) c.advance-in-Open.ensures
-    c.expression.new.self c.from_residual-in_err-expression.result c.in_err-expression.field-0.0 (exits c.from_residual-in_err-expression.result c.in_err-expression.field-0.0 c.from_residual-in_err-expression.ensures.1) c.in_err-expression.ensures
+    c.expression.new.self c.from_residual-in_err-expression-in-Open.result c.in_err-expression-in-Open.field-0.0 (exits c.from_residual-in_err-expression-in-Open.result c.in_err-expression-in-Open.field-0.0 c.from_residual-in_err-expression-in-Open.ensures.1) c.in_err-expression-in-Open.ensures
 
 pub term-returns-in_ok-expression-in-Open : goal.term-returns-in_ok-expression-in-Open
 term-returns-in_ok-expression-in-Open t c =
     grouped c.args.left c.args.self.now c.advance-in-Open.new.self c.in-Open.field-0.at (omega arith) (ap placed c.in-Open.is) c.advance-in-Open.ensures
-    c.expression.new.self c.close.new.self tt c.close.result c.in_ok-expression.ensures c.close.ensures
+    c.expression.new.self c.close.new.self tt c.close.result c.in_ok-expression-in-Open.ensures c.close.ensures
 
 pub term-returns-in-Name : goal.term-returns-in-Name
 term-returns-in-Name t c =
