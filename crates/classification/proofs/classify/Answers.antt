@@ -10,19 +10,19 @@ returns-in_err-check_line c =
     c.directive_in-found.ensures c.is_conditional.ensures
     c.in_err-check_line.field-0.0 c.from_residual.result c.in_err-check_line.ensures (p.1 ∙ ap Err p.2)
 
-pub returns-in_err-directive_line : goal.returns-in_err-directive_line
-returns-in_err-directive_line c =
-    let f = c.from_residual-in_err-directive_line in
+pub returns-in_err-directive_line-in-Some : goal.returns-in_err-directive_line-in-Some
+returns-in_err-directive_line-in-Some c =
+    let f = c.from_residual-in_err-directive_line-in-Some in
     let p = err_from_is_err_and f.result f.ensures.1 in
     line_wrong c.args.place.last c.args.place.in_comment c.args.place.number c.args.line.now c.directive_in-found.result c.is_conditional.result
     c.directive_in-found.ensures c.is_conditional.ensures c.in_ok-check_line.ensures
-    c.in-Some.found (sym c.in-Some.is) c.in_err-directive_line.field-0.0 f.result (p.1 ∙ ap Err p.2) c.in_err-directive_line.ensures
+    c.in-Some.found (sym c.in-Some.is) c.in_err-directive_line-in-Some.field-0.0 f.result (p.1 ∙ ap Err p.2) c.in_err-directive_line-in-Some.ensures
 
-pub returns-in_ok-directive_line : goal.returns-in_ok-directive_line
-returns-in_ok-directive_line c =
+pub returns-in_ok-directive_line-in-Some : goal.returns-in_ok-directive_line-in-Some
+returns-in_ok-directive_line-in-Some c =
     line_made c.args.place.last c.args.place.in_comment c.args.place.number c.args.line.now c.directive_in-found.result c.is_conditional.result
     c.directive_in-found.ensures c.is_conditional.ensures c.in_ok-check_line.ensures
-    c.in-Some.found (sym c.in-Some.is) c.in_ok-directive_line.field-0 c.in_ok-directive_line.ensures
+    c.in-Some.found (sym c.in-Some.is) c.in_ok-directive_line-in-Some.field-0 c.in_ok-directive_line-in-Some.ensures
 
 pub returns-in-None : goal.returns-in-None
 returns-in-None c =
