@@ -8,7 +8,7 @@ use Rattle.preprocessor.specs.Plain.{State, step}
 use Rattle.preprocessor.specs.Represented.{Represents, Ready}
 use Rattle.preprocessing.proofs.Turns.{turn, length_texts, written, unwritten}
 use Rattle.preprocessing.proofs.write_line.Goals as goal
-use Rattle.preprocessing.proofs.write_line.Goals.{then-keeps+in-ok-extend_from_slice, else-keeps}
+use Rattle.preprocessing.proofs.write_line.Goals.{then-keeps+in_ok-extend_from_slice, else-keeps}
 
 pub returns : goal.returns
 returns c t ls e g =
@@ -17,7 +17,7 @@ returns c t ls e g =
     let few : length ns' ≤ 64 = omega (arith, ap length names.value, length_texts c.names.result.now, names.bound) in
     let wrote : vec_items c.if-keeps.output ≡ vec_items c.args.output.now ++ cond c.keeps.result c.args.line.now [] =
     elim c.if-keeps.branch [
-      | then-keeps+in-ok-extend_from_slice w ↦
+      | then-keeps+in_ok-extend_from_slice w ↦
           written (vec_items c.if-keeps.output) (vec_items c.args.output.now) c.args.line.now c.keeps.result w.if-keeps.true
           (ap (λ v. vec_items v) w.output-is ∙ w.in_ok-extend_from_slice.ensures.items)
       | else-keeps w ↦ unwritten (vec_items c.if-keeps.output) (vec_items c.args.output.now) c.args.line.now c.keeps.result w.if-keeps.false (ap (λ v. vec_items v) w.output-is)
