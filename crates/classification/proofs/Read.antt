@@ -5,7 +5,7 @@ use Rattle.faults.specs.declared.Refusal.{Refusal}
 use Rattle.text.specs.Tokens.{Bytes, Placed}
 use Rattle.text.specs.declared.scanner.Part.{Part}
 use Rattle.expressions.specs.Grammar.{Expr, named, neg}
-use Rattle.expressions.specs.Conditions.{Item, items, postfix, item_at, name_item, not-item}
+use Rattle.expressions.specs.Conditions.{items, postfix, item_at, name_item, not-item}
 use Rattle.expressions.specs.Faults.{described}
 use Rattle.expressions.specs.Placed.{on_line, read_in, unless}
 use Rattle.expressions.specs.declared.condition.Step.TheVariants.{Defined}

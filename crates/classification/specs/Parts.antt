@@ -4,7 +4,7 @@
 --   Agrees R z r      what the definition's z and the code's r read is related by R, or they are the same refusal
 --   Tests z r         the condition r is what the definition's z says: the same steps, or the same refusal
 --   Makes z r         the line r is what the definition's z says: the same line, or the same refusal
-use Rattle.std.specs.Prelude.{◌≡◌, ℕ, Bool, true, false, ◌&&◌, ◌||◌, Some, None, Ok, Err, Option, Result, ◌==◌}
+use Rattle.std.specs.Prelude.{◌≡◌, ℕ, Bool, false, ◌&&◌, ◌||◌, Some, None, Ok, Err, Option, Result, ◌==◌}
 use Rattle.faults.specs.declared.Refusal.{Refusal}
 use Rattle.text.specs.Tokens.{Bytes}
 use Rattle.expressions.specs.Conditions.{postfix}

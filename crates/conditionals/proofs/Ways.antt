@@ -1,9 +1,9 @@
 -- Each way through the code that reads a line, against the definition.
-use Rattle.std.proofs.Common.{◌≡◌, ℕ, ◌+◌, ◌-◌, ◌<◌, ◌≤◌, Bool, true, false, not, ◌&&◌, List, [], ◌∷◌, length, get_or, set, is_some, Ok, Err, Option, sym, refl, ap, ◌∙◌, ap₂, add-one, arith, Bor}
+use Rattle.std.proofs.Common.{◌≡◌, ℕ, ◌+◌, ◌-◌, ◌<◌, ◌≤◌, Bool, true, false, not, ◌&&◌, List, ◌∷◌, length, get_or, set, is_some, Ok, Err, Option, sym, refl, ap, ◌∙◌, ap₂, add-one, arith, Bor}
 use Rattle.names.specs.Names.{texts, index_of}
 use Rattle.sources.specs.Faults.{of_conditionals}
 use Rattle.conditionals.specs.declared.Shape as code
-use Rattle.conditionals.specs.Shape.{Shape, nil, has, opened, furthered, ended, entered, ends}
+use Rattle.conditionals.specs.Shape.{nil, has, opened, furthered, ended, entered, ends}
 use Rattle.conditionals.specs.Answers.{shape_of}
 use Rattle.conditionals.proofs.Views.{stack, stack_front, stack_push, stack_top, stack_set, names_push, texts_length}
 use Rattle.conditionals.proofs.Turns.{ends_refused, ends_open, ends_ok, open_last, none_open, not_last, opened_ok, furthered_else, furthered_blocks, furthered_ok, ended_ok, entered_full, entered_new}

@@ -1,7 +1,7 @@
 -- Numbers in a store that has grown.
-use Rattle.std.proofs.Common.{◌≡◌, ℕ, ◌+◌, ◌<◌, Bool, true, false, length, Some, None, Option, sym, refl, ◌∙◌, arith}
+use Rattle.std.proofs.Common.{◌≡◌, ℕ, true, Some, None, Option, ◌∙◌, arith}
 use Rattle.stores.specs.Sets.{Set}
-use Rattle.stores.specs.Model.{Model, set_at, Appended}
+use Rattle.stores.specs.Model.{Model, Appended}
 use Rattle.stores.proofs.Models.{set_before}
 use Rattle.text.specs.Tokens.{Bytes}
 use Rattle.expressions.specs.Truth.{Env}

@@ -1,9 +1,8 @@
 -- One step of a condition, and a turn of the loop over them.
-use Rattle.std.proofs.Common.{◌≡◌, ℕ, ◌+◌, ◌-◌, ◌<◌, ◌≤◌, min, List, [], ◌∷◌, length, get_or, take, drop, Some, None, Ok, Err, Option, Result, unwrap_or, sym, refl, ap, ◌∙◌, subst, ⊎_elim, add-one, arith, length-drop, take_all, drop-cons}
+use Rattle.std.proofs.Common.{◌≡◌, ℕ, ◌+◌, ◌<◌, ◌≤◌, List, [], ◌∷◌, length, get_or, drop, Some, None, Ok, Err, Option, Result, unwrap_or, sym, refl, ap, ◌∙◌, subst, add-one, drop-cons}
 use Rattle.std.proofs.lemmas.List.{drop_all}
-use Rattle.std.proofs.lemmas.Bool.{cases_lt}
 use Rattle.stores.specs.Model.{Model}
-use Rattle.stores.specs.Outcome.{Op, both, either, less, Outcome}
+use Rattle.stores.specs.Outcome.{Op, less, Outcome}
 use Rattle.stores.specs.Steps.{Steps, Runs}
 use Rattle.stores.specs.declared.fault.StoreFault.{StoreFault}
 use Rattle.stores.proofs.Runs.{runs_asked, runs_ask_refused, runs_then, runs_refused}

@@ -1,18 +1,17 @@
 -- What an accepted run of an expression answers.
-use Rattle.std.proofs.Common.{◌≡◌, ℕ, ◌+◌, ◌<◌, Bool, true, false, not, ◌&&◌, ◌||◌, List, [], IfOk, Some, None, Ok, Err, Option, Result, sym, refl, ap, ◌∙◌, subst, ap₂, arith}
+use Rattle.std.proofs.Common.{◌≡◌, ℕ, Bool, true, not, ◌&&◌, ◌||◌, List, [], IfOk, Some, None, Ok, Err, Option, Result, sym, ap, ◌∙◌, subst, ap₂}
 use Rattle.stores.specs.Sets.{Set, empty}
 use Rattle.stores.specs.Model.{Model, set_at, Appended}
 use Rattle.stores.specs.Outcome.{Op, both, either, less, Accepted}
-use Rattle.stores.specs.Steps.{Steps, done, then, Runs}
+use Rattle.stores.specs.Steps.{Steps, then, Runs}
 use Rattle.stores.specs.declared.fault.StoreFault.{StoreFault}
 use Rattle.stores.proofs.Runs.{ok_same, runs_split, runs_appended, asked_accepted}
 use Rattle.text.specs.Tokens.{Bytes}
 use Rattle.expressions.specs.Grammar.{Expr, never, always, named, neg, conj, disj}
-use Rattle.expressions.specs.Truth.{Env, truth}
 use Rattle.expressions.specs.Conditions.{Item, postfix}
 use Rattle.evaluation.proofs.Machine.{machine_all}
 use Rattle.evaluation.specs.Worked.{entry_or, op, worked, machine}
-use Rattle.evaluation.specs.Meaning.{Denotes, AgreesOn, Within, Entry, Named, Valued}
+use Rattle.evaluation.specs.Meaning.{Denotes, AgreesOn, Within, Entry, Valued}
 use Rattle.evaluation.proofs.Later.{denotes_later, agrees_later, within_later, named_later, denotes_agrees, agrees_same}
 
 agrees_and : {m m' : Model} {T : Set} {a b c : ℕ} {f g : Set} → AgreesOn m T a f → AgreesOn m T b g → Denotes m' c (λ k. set_at m a k && set_at m b k) → AgreesOn m' T c (λ k. f k && g k)

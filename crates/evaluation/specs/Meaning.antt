@@ -5,7 +5,7 @@
 --   Entry m T o f        the entry o of a name stands for the configurations f that have it defined: no entry, none of T
 --   Named m T look D     the entries stand for the defined names D k of every configuration k of T
 --   Valued m m' look e c in the store m' the number c holds, among the configurations of any such T, those that make e true by the entries in m
-use Rattle.std.specs.Prelude.{◌≡◌, ℕ, ◌<◌, Bool, true, false, length, Some, None, Option}
+use Rattle.std.specs.Prelude.{◌≡◌, ℕ, ◌<◌, true, false, length, Some, None, Option}
 use Rattle.stores.specs.Sets.{Set}
 use Rattle.stores.specs.Model.{Model, set_at}
 use Rattle.text.specs.Tokens.{Bytes}

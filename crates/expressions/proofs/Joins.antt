@@ -4,7 +4,7 @@
 --   Law                which number a refusal has, by what can stand there
 --   Reads t D D⁺ stop  the reader t reads what D has, where what `stop` tells may follow; D⁺ has one level more
 --   joined             the same of the reader of the parts joined
-use Rattle.std.proofs.Common.{◌≡◌, ℕ, zero, suc, ◌+◌, ◌≤◌, Bool, true, false, cond, ◌&&◌, List, [], ◌∷◌, ◌++◌, length, Ok, Err, Result, sym, refl, ap, ◌∙◌, subst, ap₂, inl, inr, append_assoc, arith, length-append}
+use Rattle.std.proofs.Common.{◌≡◌, ℕ, zero, suc, ◌≤◌, Bool, true, false, cond, ◌&&◌, List, [], ◌∷◌, ◌++◌, length, Ok, Err, sym, refl, ap, ◌∙◌, subst, ap₂, inl, inr, append_assoc, arith, length-append}
 use mathlib.Core.Bool as bool
 use Rattle.std.proofs.lemmas.Bool.{and_parts, not-true}
 use Rattle.text.specs.Tokens.{Bytes, Tok, nought, name}

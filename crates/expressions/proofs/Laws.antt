@@ -1,11 +1,11 @@
 -- The reading of expressions against the rules: accepted exactly where they derive one, refused at the first token that cannot go on, with the number
 -- that what is due there gives.
-use Rattle.std.proofs.Common.{◌≡◌, ℕ, suc, ◌+◌, true, List, [], ◌∷◌, ◌++◌, length, Ok, Err, Result, sym, refl, ap, ◌∙◌, subst, append_assoc, arith, length-append}
-use Rattle.text.specs.Tokens.{Bytes, Tok, nought, name}
+use Rattle.std.proofs.Common.{◌≡◌, ℕ, true, List, [], ◌∷◌, ◌++◌, length, Ok, Err, Result, sym, refl, ap, ◌∙◌, subst, append_assoc, arith, length-append}
+use Rattle.text.specs.Tokens.{Tok, nought, name}
 use Rattle.expressions.specs.Grammar.{Expr, Out, expr, ended, finished, parsed}
-use Rattle.expressions.specs.Derived.{ors, Derives, Expression, Exact, OneOnly, GoesOn, GoesOnWithin, Stops, AtFirst, TermDue, NameDue, wrong_term, OneTooDeep, Number, no_name, no_term, surplus, Numbered}
+use Rattle.expressions.specs.Derived.{ors, Derives, Expression, Exact, OneOnly, GoesOn, GoesOnWithin, Stops, AtFirst, OneTooDeep, Number, no_name, no_term, surplus, Numbered}
 use Rattle.expressions.specs.Examples.{Examples}
-use Rattle.expressions.proofs.Joins.{Stuck, Can, First, Law, name_is_due, term_due, neither, law_by, Got, Reads}
+use Rattle.expressions.proofs.Joins.{Stuck, Can, First, Law, name_is_due, term_due, neither, law_by, Got}
 use Rattle.expressions.proofs.Terms.{no_more, expressions}
 
 append_none : (q : List Tok) → q ++ [] ≡ q

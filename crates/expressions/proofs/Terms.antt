@@ -1,9 +1,9 @@
 -- The readers of terms and expressions against the rules.
-use Rattle.std.proofs.Common.{◌≡◌, ℕ, zero, suc, Bool, true, false, cond, ◌&&◌, List, [], ◌∷◌, ◌++◌, Ok, Err, Result, sym, refl, ap, ◌∙◌, subst, ap₂, inl, inr, append_assoc, arith}
+use Rattle.std.proofs.Common.{◌≡◌, ℕ, zero, suc, Bool, true, false, cond, ◌&&◌, List, [], ◌∷◌, ◌++◌, Ok, Err, sym, refl, ap, ◌∙◌, subst, inl, inr, append_assoc, arith}
 use mathlib.Core.Bool as bool
 use Rattle.text.specs.Tokens.{Bytes, Tok, nought, unit, defined, not, and, or, opened, closed, name, other}
-use Rattle.expressions.specs.Grammar.{Expr, never, always, named, neg, conj, disj, is_and, is_or, is_close, Out, after, closing, inside_by, inside, name_by, name_due, term_by, first, more, chain, expr_by, term, expr, ended, finished, parsed}
-use Rattle.expressions.specs.Derived.{Part, a-term, ands, ors, Derives, zero_is, one_is, defined_is, wrapped_is, not_is, group_is, and_one, and_more, or_one, or_more, Expression, Exact, OneOnly, GoesOn, GoesOnWithin, Stops, AtFirst, TermDue, NameDue, wrong_term, OneTooDeep, Number, no_name, no_term, surplus, Numbered}
+use Rattle.expressions.specs.Grammar.{Expr, never, named, neg, conj, disj, is_and, is_or, is_close, Out, after, closing, inside, name_due, first, chain, expr_by, term, expr}
+use Rattle.expressions.specs.Derived.{Part, a-term, ands, ors, Derives, zero_is, one_is, defined_is, wrapped_is, not_is, group_is, and_one, and_more, or_one, or_more, wrong_term}
 use Rattle.expressions.proofs.Joins.{Stuck, Can, Law, name_is_due, term_due, neither, law_by, behind_more, Got, Reads, Joined, one, next, begins, joined}
 
 only_and : (x : Tok) → is_and x ≡ true → x ≡ and

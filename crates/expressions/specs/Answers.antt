@@ -6,7 +6,7 @@
 --   RefusedAt ps z m b       of the tokens ps those in front can go on to an expression, the next or their end cannot; m is the number that what is due
 --                            there gives, and b the place of that token, or z
 --   Conforms line ps r       the tokens ps are an expression of the grammar and the answer has its steps, or they are none and the fault is at its place
-use Rattle.std.specs.Prelude.{◌≡◌, ℕ, suc, List, [], ◌∷◌, ◌++◌, length, take, Some, None, Ok, Err, Option, Result}
+use Rattle.std.specs.Prelude.{◌≡◌, ℕ, suc, List, ◌++◌, length, take, Some, None, Ok, Err, Option, Result}
 use Rattle.text.specs.Tokens.{Bytes, Placed}
 use Rattle.text.specs.declared.scanner.Part.{Part}
 use Rattle.expressions.specs.Grammar.{Expr}

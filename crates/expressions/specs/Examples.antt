@@ -2,7 +2,7 @@
 --   Examples   what the definitions make of some lines: the expression, or the number and the byte of the refusal
 use Rattle.std.specs.Prelude.{◌≡◌, true, false, Some, None, Ok, Err, codes}
 use Rattle.text.specs.Tokens.{Bytes}
-use Rattle.expressions.specs.Grammar.{Expr, never, always, named, neg, conj, disj}
+use Rattle.expressions.specs.Grammar.{never, always, named, neg, conj, disj}
 use Rattle.expressions.specs.Conditions.{condition_at, only_name, nothing_at}
 
 abbrev pub Long : Bytes

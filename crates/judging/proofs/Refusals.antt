@@ -1,5 +1,5 @@
 -- A refusal of a switch is one of the whole.
-use Rattle.std.proofs.Common.{◌≡◌, ℕ, ◌<◌, List, Some, None, Ok, Err, Option, sym, refl, ◌∙◌, subst, inl, inr, arith}
+use Rattle.std.proofs.Common.{◌≡◌, ℕ, ◌<◌, List, None, Ok, Err, Option, sym, refl, ◌∙◌, subst, inl, inr, arith}
 use Rattle.stores.specs.Sets.{LowestIf}
 use Rattle.stores.specs.Model.{Model, set_at, Consistent}
 use Rattle.stores.specs.Outcome.{Op, FindOutcome}

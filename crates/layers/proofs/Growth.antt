@@ -1,5 +1,5 @@
 -- A layer over a store that grows or is cut.
-use Rattle.std.proofs.Common.{◌≡◌, ℕ, ◌+◌, ◌-◌, ◌<◌, ◌≤◌, min, max, List, length, get_or, take, Ok, Err, Result, sym, refl, ap, ◌∙◌, subst, zero-le, arith, length-take-le, get_or-take, le-ltb, lt-ltb}
+use Rattle.std.proofs.Common.{◌≡◌, ℕ, ◌-◌, ◌<◌, ◌≤◌, max, List, length, get_or, take, Ok, Err, Result, sym, refl, ap, ◌∙◌, subst, zero-le, arith, length-take-le, get_or-take, le-ltb, lt-ltb}
 use Rattle.stores.specs.Sets.{Set, empty, ◌∩◌, on}
 use Rattle.stores.specs.Model.{Model, set_at, kept, Unmoved, Appended, CutTo}
 use Rattle.stores.specs.Outcome.{Op, switch, result, refusal, Extends, Outcome, CutBack}

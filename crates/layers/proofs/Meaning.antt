@@ -1,12 +1,12 @@
 -- What a run of the steps of preparing comes to.
-use Rattle.std.proofs.Common.{◌≡◌, ℕ, zero, suc, ◌+◌, ◌<◌, ◌≤◌, Bool, true, false, cond, ◌&&◌, ◌⊎◌, List, [], ◌∷◌, ◌++◌, length, get_or, take, Ok, Err, Result, sym, refl, ap, ◌∙◌, subst, ap₂, inl, inr, ⊎_elim, arith, get_or-take, below_more}
+use Rattle.std.proofs.Common.{◌≡◌, ℕ, zero, suc, ◌+◌, ◌<◌, Bool, true, false, cond, ◌&&◌, List, [], ◌∷◌, ◌++◌, length, get_or, take, Ok, Err, Result, sym, refl, ap, ◌∙◌, subst, ap₂, ⊎_elim, arith, get_or-take, below_more}
 use mathlib.Core.Path.{fun_ext}
 use Rattle.std.proofs.lemmas.List.{get_or_append_left, get_or_push, length_push}
 use Rattle.stores.specs.Sets.{Set, ◌∩◌, on, Empty}
 use Rattle.stores.specs.Model.{Model, set_at, size, Appended, Consistent}
-use Rattle.stores.specs.Outcome.{Op, switch, both, Accepted, Refused}
+use Rattle.stores.specs.Outcome.{Op, both, Accepted}
 use Rattle.stores.specs.Steps.{Steps, fail, TellsEmpty, Runs}
-use Rattle.stores.proofs.Models.{set_before, appended_none, appended_trans}
+use Rattle.stores.proofs.Models.{set_before, appended_trans}
 use Rattle.stores.proofs.Runs.{ok_same, ok_not_err}
 use Rattle.stores.specs.declared.fault.StoreFault.{StoreFault}
 use Rattle.layers.specs.Layered.{Fits}

@@ -1,14 +1,14 @@
 -- Preparing, turn by turn.
-use Rattle.std.proofs.Common.{◌≡◌, ℕ, suc, ◌+◌, ◌-◌, ◌<◌, ◌≤◌, Bool, true, false, List, [], ◌∷◌, ◌++◌, length, take, set, is_some, IsErrAnd, Some, None, Ok, Err, Option, Result, sym, refl, ap, ◌∙◌, subst, inl, inr, arith, length-set}
+use Rattle.std.proofs.Common.{◌≡◌, ℕ, suc, ◌+◌, ◌-◌, ◌<◌, ◌≤◌, Bool, true, false, List, [], length, take, set, is_some, IsErrAnd, Some, None, Ok, Err, Option, Result, sym, refl, ap, ◌∙◌, subst, inl, inr, arith, length-set}
 use Rattle.std.proofs.lemmas.List.{take_more_set}
 use Rattle.std.proofs.lemmas.Result.{err_from_is_err_and}
 use Rattle.stores.specs.Sets.{Set, Empty, LowestIf}
 use Rattle.stores.specs.Model.{Model, set_at, size}
 use Rattle.stores.specs.Outcome.{Op, switch, both, Accepted, Refused, RollbackLaws, Advanced}
-use Rattle.stores.specs.Steps.{Steps, Runs}
-use Rattle.stores.proofs.Models.{extends_none, extends_same, advanced_none, advanced_trans}
+use Rattle.stores.specs.Steps.{Runs}
+use Rattle.stores.proofs.Models.{extends_same, advanced_none, advanced_trans}
 use Rattle.stores.specs.declared.fault.StoreFault.{StoreFault}
-use Rattle.layers.specs.Preparing.{Numbers, switching, preparing, answered, Measured, WorksOut}
+use Rattle.layers.specs.Preparing.{Numbers, switching, preparing, WorksOut}
 use Rattle.layers.specs.declared.fault.LayerFault.{LayerFault}
 use Rattle.layers.specs.declared.fault.LayerFault.TheVariants.{Store, NoneAllowed}
 use Rattle.layers.specs.declared.preparation.Prepared.{Prepared}

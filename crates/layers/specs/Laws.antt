@@ -2,11 +2,10 @@
 --   over_consistent   a layer keeps the bounds that every store keeps
 --   needs_bounded     its needs have the bound that those below have
 --   layer_rollback_laws    taking numbers off has its laws
-use Rattle.std.specs.Prelude.{◌≡◌, ℕ, ◌≤◌}
+use Rattle.std.specs.Prelude.{ℕ, ◌≤◌}
 use Rattle.std.proofs.Common.{ap, zero-le}
 use Rattle.stores.specs.Model.{Model, Consistent}
 use Rattle.stores.specs.Outcome.{Op, switch, both, either, less, RollbackLaws}
-use Rattle.layers.specs.declared.Layer.{Layer}
 use Rattle.layers.specs.declared.preparation.Prepared.{Prepared}
 use Rattle.layers.specs.Layered.{Fits, over, needs, replaced, LayerValid, layer_model, layer_rollback}
 

@@ -1,7 +1,7 @@
 -- One line after the other.
-use Rattle.std.proofs.Common.{◌≡◌, ℕ, zero, suc, ◌+◌, ◌-◌, ◌<◌, ◌≤◌, Bool, true, false, cond, eqb, List, [], ◌∷◌, ◌++◌, length, get_or, take, drop, sym, refl, ap, ◌∙◌, subst, inl, inr, ⊎_elim, append_assoc, append-nil, arith, take_all, eq-eqb, eqb-true}
+use Rattle.std.proofs.Common.{◌≡◌, ℕ, zero, suc, ◌+◌, ◌<◌, ◌≤◌, Bool, true, false, cond, eqb, List, [], ◌∷◌, ◌++◌, length, get_or, take, drop, sym, refl, ap, ◌∙◌, subst, inl, inr, ⊎_elim, append_assoc, append-nil, arith, take_all, eq-eqb, eqb-true}
 use Rattle.std.proofs.lemmas.List.{at_drop_more, at_drop_all, take_more}
-use Rattle.lines.specs.Lines.{Line, until_feed, past_feed, onto, lines_of, Divided, FirstLine}
+use Rattle.lines.specs.Lines.{until_feed, past_feed, onto, lines_of, Divided, FirstLine}
 
 more_by : (b : Bool) (x y : ℕ) (ys : List ℕ) → FirstLine (y ∷ ys)
     → cond b (record { content = []; behind = y ∷ ys } ∷ lines_of (y ∷ ys)) (onto x (lines_of (y ∷ ys)))

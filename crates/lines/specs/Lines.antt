@@ -4,7 +4,7 @@
 --   past_feed s       the bytes behind it; none where there is none
 --   Divided s line behind   the line has no line feed, and is all of s, or stands before a line feed and then `behind`
 --   lines_of s        the lines in order: each ends with its line feed, and the last may lack it, so that an empty text has none
-use Rattle.std.specs.Prelude.{◌≡◌, ℕ, ◌<◌, Bool, cond, ◌⊎◌, List, [], ◌∷◌, ◌++◌, length, ◌==◌, ◌≢◌, slice_index}
+use Rattle.std.specs.Prelude.{◌≡◌, ℕ, ◌<◌, cond, ◌⊎◌, List, [], ◌∷◌, ◌++◌, length, ◌==◌, ◌≢◌, slice_index}
 
 pub record Line : Type 0 where
   pub content : List ℕ

@@ -1,5 +1,5 @@
 -- A term as the parser reads it, by its first token, against the grammar.
-use Rattle.std.proofs.Common.{◌≡◌, ℕ, zero, suc, ◌-◌, ◌<◌, ◌≤◌, ◌⊎◌, List, [], ◌∷◌, ◌++◌, length, Some, None, Ok, Err, Result, sym, refl, ap, ◌∙◌, subst, inl, inr, arith, length-append}
+use Rattle.std.proofs.Common.{◌≡◌, ℕ, zero, suc, ◌-◌, ◌<◌, ◌⊎◌, List, [], ◌∷◌, ◌++◌, length, Some, None, Ok, Err, Result, sym, refl, ap, ◌∙◌, subst, inl, inr, arith, length-append}
 use Rattle.text.specs.Tokens.{Tok, nought, unit, defined, not, and, or, opened, closed, name, other, Placed}
 use Rattle.text.specs.Pulling.{placed, place, left}
 use Rattle.text.specs.declared.scanner.Part.{Part}
@@ -7,7 +7,7 @@ use Rattle.text.specs.declared.scanner.Token.TheVariants.{And, Or, Close, Other,
 use Rattle.expressions.specs.Grammar.{Expr, never, always, neg, Out, after, closing, name_due, term, expr}
 use Rattle.expressions.specs.Conditions.{kinds, Item, not-item, postfix}
 use Rattle.expressions.specs.Faults.{refused, described}
-use Rattle.parser.specs.Parsing.{ahead, Ready, Run, Advanced, Read, Refused, Outcome}
+use Rattle.parser.specs.Parsing.{ahead, Ready, Run, Advanced, Outcome}
 use Rattle.expressions.specs.declared.fault.ExpressionFault.{ExpressionFault}
 use Rattle.parser.specs.declared.descent.Parser.{Parser}
 use Rattle.parser.proofs.Parts.{then, here, later, was_read, reads, refuses, head_is, token_is, end_is, group, through}

@@ -1,15 +1,15 @@
 -- A whole line: its parser at first, and what its answer says of the definitions and of the grammar.
-use Rattle.std.proofs.Common.{◌≡◌, ℕ, zero, suc, ◌+◌, ◌-◌, ◌<◌, ◌≤◌, Bool, true, false, List, [], ◌∷◌, ◌++◌, length, take, drop, Ok, Err, Result, sym, refl, ap, ◌∙◌, subst, ap₂, arith, length-append, length-drop}
+use Rattle.std.proofs.Common.{◌≡◌, ℕ, zero, suc, ◌+◌, ◌-◌, ◌≤◌, Bool, true, false, List, [], ◌∷◌, ◌++◌, length, take, drop, Ok, Err, Result, sym, refl, ap, ◌∙◌, subst, ap₂, arith, length-append, length-drop}
 use Rattle.text.specs.Tokens.{Bytes, Tok, Placed, between, gap, front, begun, lexed, tokens_at}
 use Rattle.text.specs.Pulling.{placed, place, bytes, left, Pulls}
 use Rattle.text.specs.declared.scanner.Token.{Token}
 use Rattle.text.specs.declared.scanner.Tokens.{Tokens}
-use Rattle.expressions.specs.Grammar.{Expr, Out, expr, finished, parsed}
-use Rattle.expressions.specs.Derived.{Expression, GoesOn, Stops, Number}
-use Rattle.expressions.specs.Conditions.{kinds, place_or, located, condition_at, Item, items, postfix}
+use Rattle.expressions.specs.Grammar.{Expr, expr, finished, parsed}
+use Rattle.expressions.specs.Derived.{GoesOn, Stops, Number}
+use Rattle.expressions.specs.Conditions.{kinds, place_or, located, Item, items, postfix}
 use Rattle.expressions.specs.Faults.{refused, described}
-use Rattle.parser.specs.Parsing.{none_left, ahead, line_of, written, Ready, Run, Read, Refused, Outcome, Completed}
-use Rattle.expressions.specs.Answers.{Answered, RefusedAt, Conforms}
+use Rattle.parser.specs.Parsing.{none_left, ahead, line_of, written, Ready, Refused, Outcome, Completed}
+use Rattle.expressions.specs.Answers.{Answered, Conforms}
 use Rattle.expressions.specs.declared.condition.Step.{Step}
 use Rattle.expressions.specs.declared.condition.Condition.{Condition}
 use Rattle.expressions.specs.declared.fault.ExpressionFault.{ExpressionFault}

@@ -1,10 +1,10 @@
 -- Parts joined by one token, as the parser reads them, against the grammar.
 --   Looped op join t p q   from p, behind the first part, to q further parts were read, and their steps written
-use Rattle.std.proofs.Common.{◌≡◌, ℕ, zero, suc, ◌+◌, ◌<◌, ◌≤◌, Bool, true, false, cond, List, [], ◌∷◌, ◌++◌, length, Ok, Err, Result, sym, refl, ap, ◌∙◌, subst, ap₂, append_assoc, arith, length-append}
+use Rattle.std.proofs.Common.{◌≡◌, ℕ, zero, suc, ◌<◌, ◌≤◌, Bool, true, false, cond, List, [], ◌∷◌, ◌++◌, length, Ok, Err, Result, sym, refl, ap, ◌∙◌, subst, append_assoc, arith, length-append}
 use Rattle.text.specs.Tokens.{Tok, Placed}
 use Rattle.expressions.specs.Grammar.{Expr, Out, after, more, chain}
 use Rattle.expressions.specs.Conditions.{kinds, Item, postfix}
-use Rattle.parser.specs.Parsing.{next_is, ahead, written, Ready, Run, Advanced, Read, Refused, Outcome}
+use Rattle.parser.specs.Parsing.{next_is, ahead, written, Ready, Run, Advanced, Outcome}
 use Rattle.expressions.specs.declared.fault.ExpressionFault.{ExpressionFault}
 use Rattle.parser.specs.declared.descent.Parser.{Parser}
 use Rattle.parser.proofs.Parts.{then, later, was_read, was_refused, reads, refuses, advanced_kinds}

@@ -1,16 +1,13 @@
 -- One step of the parser against one of the grammar.
-use Rattle.std.proofs.Common.{◌≡◌, ℕ, zero, suc, ◌+◌, ◌-◌, ◌<◌, ◌≤◌, Bool, true, false, cond, List, [], ◌∷◌, ◌++◌, map, length, take, drop, set, Some, None, Ok, Err, Option, Result, sym, refl, ap, ◌∙◌, subst, ap₂, append_assoc, add-one, arith, length-append, length-set, take-suc-set}
+use Rattle.std.proofs.Common.{◌≡◌, ℕ, suc, ◌+◌, ◌-◌, ◌<◌, List, [], ◌∷◌, ◌++◌, length, take, drop, set, Some, None, Option, sym, refl, ap, ◌∙◌, ap₂, add-one, arith, length-set, take-suc-set}
 use Rattle.std.proofs.lemmas.List.{map-append}
-use Rattle.text.specs.Tokens.{Bytes, Tok, nought, unit, defined, not, and, or, opened, closed, name, other, Placed}
+use Rattle.text.specs.Tokens.{Bytes, Placed}
 use Rattle.text.specs.Pulling.{placed, place, bytes, left, place_or, Pulls}
 use Rattle.text.specs.declared.scanner.Token.{Token}
 use Rattle.text.specs.declared.scanner.Tokens.{Tokens}
-use Rattle.expressions.specs.Grammar.{Expr, Out}
-use Rattle.expressions.specs.Conditions.{kinds, Item, item_at, items}
-use Rattle.expressions.specs.Faults.{refused, described}
-use Rattle.parser.specs.Parsing.{before, ahead, line_of, written, Ready, Run, Advanced, Read, Refused, Outcome}
+use Rattle.expressions.specs.Conditions.{item_at, items}
+use Rattle.parser.specs.Parsing.{before, ahead, line_of, written, Ready, Run, Advanced}
 use Rattle.expressions.specs.declared.condition.Step.{Step}
-use Rattle.expressions.specs.declared.fault.ExpressionFault.{ExpressionFault}
 use Rattle.parser.specs.declared.descent.Parser.{Parser}
 
 -- the first of what is ahead

@@ -1,13 +1,13 @@
 -- The parts of an expression as the parser reads them, against the grammar.
-use Rattle.std.proofs.Common.{◌≡◌, ℕ, zero, suc, ◌+◌, ◌-◌, ◌<◌, ◌≤◌, Bool, true, false, cond, List, [], ◌∷◌, ◌++◌, length, take, drop, IsErrAnd, Some, None, Ok, Err, Option, Result, sym, refl, ap, ◌∙◌, subst, ap₂, append_assoc, arith, length-append}
+use Rattle.std.proofs.Common.{◌≡◌, ℕ, suc, ◌+◌, ◌-◌, ◌<◌, ◌≤◌, Bool, true, false, cond, List, [], ◌∷◌, ◌++◌, length, take, drop, IsErrAnd, Some, None, Ok, Err, Option, Result, sym, refl, ap, ◌∙◌, subst, ap₂, append_assoc, arith, length-append}
 use Rattle.std.proofs.lemmas.Result.{err_from_is_err_and}
 use Rattle.text.specs.Tokens.{Bytes, Tok, nought, unit, defined, not, and, or, opened, closed, name, other, Placed}
 use Rattle.text.specs.Pulling.{placed, place, bytes, left, place_or}
 use Rattle.text.specs.declared.scanner.Part.{Part}
 use Rattle.text.specs.declared.scanner.Token.{Token}
 use Rattle.text.specs.declared.scanner.Token.TheVariants.{Name}
-use Rattle.expressions.specs.Grammar.{Expr, never, always, named, neg, is_close, Out, after, closing, inside, name_due, expr_by, term, expr}
-use Rattle.expressions.specs.Conditions.{kinds, Item, false-item, true-item, not-item, name_item, item_at, items, postfix}
+use Rattle.expressions.specs.Grammar.{Expr, named, is_close, Out, after, closing, inside, name_due}
+use Rattle.expressions.specs.Conditions.{kinds, Item, name_item, item_at, postfix}
 use Rattle.expressions.specs.Faults.{refused, described}
 use Rattle.parser.specs.Parsing.{next_is, is_open, name_first, before, ahead, line_of, written, Ready, Run, Advanced, Read, Refused, Outcome}
 use Rattle.expressions.specs.declared.condition.Step.TheVariants.{Defined}

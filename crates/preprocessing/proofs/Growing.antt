@@ -1,11 +1,10 @@
 -- What a line that is accepted does to the names and the open chains.
 --   Entered ns ns'      the names behind an accepted line are those before it, or these and one that was not among them
-use Rattle.std.proofs.Common.{◌≡◌, ℕ, suc, ◌+◌, ◌<◌, ◌≤◌, Bool, true, false, cond, not, ◌&&◌, eqb, leb, List, [], ◌∷◌, ◌++◌, length, is_some, Some, None, Ok, Err, Option, Result, sym, refl, ap, ◌∙◌, subst, arith, eq-eqb, leb-false}
+use Rattle.std.proofs.Common.{◌≡◌, ℕ, ◌+◌, ◌<◌, Bool, true, false, cond, not, ◌&&◌, eqb, leb, List, [], ◌∷◌, ◌++◌, length, is_some, Some, Ok, Err, Option, Result, sym, refl, ap, ◌∙◌, subst, arith, eq-eqb, leb-false}
 use Rattle.std.specs.Str.{bytes_eq}
-use Rattle.faults.specs.declared.Refusal.{Refusal}
 use Rattle.text.specs.Tokens.{Bytes}
-use Rattle.names.specs.Names.{index_from, index_of, fresh, distinct_from, distinct}
-use Rattle.sources.specs.Classified.{Test, given, otherwise, Opening, Line, plain, name, if, elif, endif, refuse}
+use Rattle.names.specs.Names.{index_from, fresh, distinct_from, distinct}
+use Rattle.sources.specs.Classified.{Opening, Line, plain, name, if, elif, endif, refuse}
 use Rattle.sources.specs.Faults.{of_conditionals}
 use Rattle.conditionals.specs.Shape.{Shape, has, shaped, furthered, ended, is_else}
 use Rattle.preprocessor.specs.Plain.{State, Frame, step}

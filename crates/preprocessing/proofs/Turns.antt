@@ -1,5 +1,5 @@
 -- A turn of the loop over the lines.
-use Rattle.std.proofs.Common.{◌≡◌, ℕ, zero, suc, ◌<◌, ◌≤◌, Bool, true, false, cond, eqb, List, [], ◌∷◌, ◌++◌, length, is_some, Some, Ok, Err, Result, sym, refl, ap, ◌∙◌, subst, arith, Bor, ne_eqb, eqb-true}
+use Rattle.std.proofs.Common.{◌≡◌, ℕ, zero, suc, ◌<◌, ◌≤◌, Bool, true, false, cond, eqb, List, [], ◌∷◌, ◌++◌, length, Ok, Err, Result, sym, refl, ap, ◌∙◌, subst, arith, Bor, ne_eqb, eqb-true}
 use Rattle.names.specs.Names.{texts}
 use Rattle.faults.specs.declared.Refusal.{Refusal}
 use Rattle.text.specs.Tokens.{Bytes}
@@ -20,9 +20,8 @@ use Rattle.preprocessor.specs.Plain.{State, step, kept}
 use Rattle.preprocessor.specs.Represented.{chains_of, Represents, Asks, Ready}
 use Rattle.preprocessor.specs.declared.state.State as states
 use Rattle.preprocessor.proofs.Standing.{represents_more}
-use Rattle.preprocessing.specs.Outcome.{Told}
 use Rattle.preprocessing.specs.Lines.{Answer, rendered, Left, Going}
-use Rattle.preprocessing.proofs.Growing.{no_ok, accepted, same_ok, Entered, none_more, one_more, Accepted, after_line, defined_there, room_for_if}
+use Rattle.preprocessing.proofs.Growing.{no_ok, accepted, same_ok, Entered, none_more, one_more, after_line, defined_there, room_for_if}
 use Rattle.preprocessing.proofs.Rendered.{append_nothing, line_read, line_refused, all_read}
 
 -- no line is left where no byte is

@@ -1,5 +1,5 @@
 -- What is wanted of a source, by what was tested.
-use Rattle.std.proofs.Common.{◌≡◌, ℕ, ◌*◌, ◌%◌, ◌^◌, ◌<◌, ◌≤◌, Bool, true, false, cond, not, ◌||◌, ltb, List, [], ◌∷◌, ◌++◌, length, Some, None, Ok, Err, Option, Result, sym, refl, ap, ◌∙◌, subst, arith, ltb-false, le-ltb, lt-ltb, le-leb}
+use Rattle.std.proofs.Common.{◌≡◌, ℕ, ◌*◌, ◌%◌, ◌^◌, ◌<◌, ◌≤◌, Bool, true, false, cond, not, ◌||◌, ltb, List, [], ◌++◌, length, Some, None, Ok, Err, Option, Result, sym, refl, ap, ◌∙◌, subst, arith, ltb-false, le-ltb, lt-ltb, le-leb}
 use Rattle.std.proofs.lemmas.Nat.{one_shl}
 use Rattle.faults.specs.declared.Refusal.{Refusal}
 use Rattle.faults.specs.declared.Layer.TheVariants.{Store, Session}
@@ -14,12 +14,12 @@ use Rattle.conditionals.specs.Shape.{Shape, begun}
 use Rattle.conditionals.specs.Reading.{read_lines}
 use Rattle.conditionals.specs.Answers.{shape_of, beginning, start_of}
 use Rattle.conditionals.specs.declared.Shape as code
-use Rattle.preprocessor.specs.Plain.{State, output, defined_in, began, preprocessed}
+use Rattle.preprocessor.specs.Plain.{output, defined_in, began, preprocessed}
 use Rattle.preprocessor.specs.Represented.{Represents}
 use Rattle.preprocessor.specs.declared.state.State as states
 use Rattle.preprocessing.specs.Faults.{outside}
 use Rattle.preprocessing.specs.Outcome.{wanted}
-use Rattle.preprocessing.specs.Lines.{Answer, rendered, Left, Going}
+use Rattle.preprocessing.specs.Lines.{Answer, rendered, Going}
 
 taken : {A F : Type 0} (b : Bool) (f : F) (r : Result A F) → b ≡ true → refuse b f r ≡ Err f
 taken true f r e = refl

@@ -5,7 +5,7 @@
 --                          (c) or in code; the shape s and the state q of the code stand for those of the definition
 --   LineWritten p l ..     a line l at the place p leads from one such standing to the next; or it is refused, and then the whole is refused so
 --   Writes text s q r      from the standing before the first line on the answer is the whole output
-use Rattle.std.specs.Prelude.{◌≡◌, ℕ, suc, ◌≤◌, Bool, false, List, [], ◌∷◌, ◌++◌, length, Ok, Err, Result, Vec}
+use Rattle.std.specs.Prelude.{◌≡◌, ℕ, suc, Bool, false, List, [], ◌∷◌, ◌++◌, length, Ok, Err, Result, Vec}
 use Rattle.std.specs.declared.alloc.Global.{Global}
 use Rattle.faults.specs.declared.Refusal.{Refusal}
 use Rattle.text.specs.Tokens.{Bytes}

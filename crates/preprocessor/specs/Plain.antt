@@ -12,7 +12,7 @@
 --   defined_in ns k   the names that configuration k defines at first: those of the switches that are on
 --   began D          the state before the first line
 --   preprocessed ns k t   the output of configuration k over the source t, where ns are the switches' names
-use Rattle.std.specs.Prelude.{ℕ, Bool, true, false, cond, not, ◌&&◌, ◌||◌, List, [], ◌∷◌, ◌++◌, Some, None, Ok, Err, Option, Result}
+use Rattle.std.specs.Prelude.{ℕ, Bool, true, false, cond, not, ◌&&◌, ◌||◌, List, [], ◌∷◌, ◌++◌, Some, None, Option, Result}
 use Rattle.std.specs.Str.{bytes_eq}
 use Rattle.faults.specs.declared.Refusal.{Refusal}
 use Rattle.stores.specs.Sets.{on}

@@ -13,7 +13,7 @@
 --   turned h f         the frame f with the next block of the chain
 --   entered h st       the chains behind an `if` whose condition has the value h
 --   continued h st     the same behind an `elif`; behind an `else` where h is true
-use Rattle.std.specs.Prelude.{◌≡◌, ℕ, zero, suc, ◌<◌, ◌≤◌, Bool, true, false, not, ◌&&◌, ◌||◌, List, [], ◌∷◌, length, set, is_some, Some, None, Option, slice_index_or, slice_set}
+use Rattle.std.specs.Prelude.{◌≡◌, ℕ, zero, suc, ◌<◌, ◌≤◌, Bool, true, false, not, ◌&&◌, ◌||◌, List, [], ◌∷◌, length, is_some, Some, None, Option, slice_index_or, slice_set}
 use Rattle.text.specs.Tokens.{Bytes}
 use Rattle.names.specs.Names.{index_of}
 use Rattle.sources.specs.Classified.{Test, given, otherwise, Line, plain, name, if, elif, endif}

@@ -13,7 +13,7 @@ use Rattle.directives.specs.declared.Directive.{Directive}
 use Rattle.directives.specs.declared.Directive.TheVariants.{If, Elif, Else, Endif, Define, Undef}
 use Rattle.sources.specs.Lines.{content}
 use Rattle.sources.specs.Faults.{of_lines}
-use Rattle.sources.specs.Classified.{Line, plain, name, if, elif, endif, given, otherwise, raw_of, refuse, changed, condition_of, made, kind, classified}
+use Rattle.sources.specs.Classified.{Line, name, if, elif, endif, given, otherwise, raw_of, refuse, changed, condition_of, made, kind, classified}
 use Rattle.conditionals.specs.Answers.{Proper}
 
 abbrev pub Given : Bytes → Line → Type 0

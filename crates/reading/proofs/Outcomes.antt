@@ -1,5 +1,5 @@
 -- From the two parts of reading a line to the whole.
-use Rattle.std.proofs.Common.{◌≡◌, ℕ, Bool, Ok, Err, Result, sym, refl, ap, ◌∙◌, arith}
+use Rattle.std.proofs.Common.{◌≡◌, Ok, Err, Result, sym, refl, ap, ◌∙◌}
 use Rattle.faults.specs.declared.Refusal.{Refusal}
 use Rattle.text.specs.Tokens.{Bytes}
 use Rattle.sources.specs.Classified as definition
@@ -14,7 +14,7 @@ use Rattle.sources.specs.declared.line.Line.{Line}
 use Rattle.conditionals.specs.Shape.{Shape, shaped, ends}
 use Rattle.conditionals.specs.Answers.{shape_of, Proper, Reads}
 use Rattle.conditionals.specs.declared.Shape as code
-use Rattle.reading.specs.Lines.{due, LineRead, LineOutcome}
+use Rattle.reading.specs.Lines.{due, LineRead}
 use Rattle.reading.proofs.Given.{classified_given}
 
 abbrev Classes : Type 0

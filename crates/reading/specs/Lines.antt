@@ -2,7 +2,7 @@
 --   due p s l              what the definition makes of the line l at the place p, where the lines before it leave the shape s
 --   LineRead p l s s' y    the line y of the code is the definition's line x, which has the bytes l, and s' is the shape behind it
 --   LineOutcome p l s s' r accepted: the same; refused: the definition's refusal, and the shape is as it was
-use Rattle.std.specs.Prelude.{◌≡◌, ℕ, Ok, Err, Result}
+use Rattle.std.specs.Prelude.{◌≡◌, Ok, Err, Result}
 use Rattle.faults.specs.declared.Refusal.{Refusal}
 use Rattle.text.specs.Tokens.{Bytes}
 use Rattle.sources.specs.Classified as definition

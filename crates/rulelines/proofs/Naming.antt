@@ -1,7 +1,7 @@
 -- The loop over `switch` lines.
-use Rattle.std.proofs.Common.{◌≡◌, ℕ, false, List, [], ◌∷◌, ◌++◌, length, Ok, Err, Result, sym, refl, ap, ◌∙◌, subst, arith, Bor}
+use Rattle.std.proofs.Common.{◌≡◌, ℕ, false, List, [], ◌∷◌, ◌++◌, length, Ok, Result, sym, refl, ap, ◌∙◌, arith, Bor}
 use Rattle.faults.specs.declared.Refusal.{Refusal}
-use Rattle.lines.specs.Lines.{Line, until_feed, past_feed, lines_of, FirstLine}
+use Rattle.lines.specs.Lines.{until_feed, past_feed, lines_of, FirstLine}
 use Rattle.names.specs.Names.{texts}
 use Rattle.names.proofs.Turns.{texts_append}
 use Rattle.text.specs.Tokens.{Bytes}

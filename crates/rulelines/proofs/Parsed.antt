@@ -1,8 +1,7 @@
 -- What was read of a line, as one answer: its length first, then its tokens.
-use Rattle.std.proofs.Common.{◌≡◌, ℕ, ◌<◌, ◌≤◌, Bool, true, false, cond, ltb, List, length, take, Some, None, Ok, Err, Option, Result, sym, refl, ap, ◌∙◌, subst, ⊎_elim, ltb-false, ltb-true}
+use Rattle.std.proofs.Common.{◌≡◌, ℕ, ◌<◌, ◌≤◌, Bool, true, false, cond, ltb, List, length, take, Some, None, Ok, Err, Option, Result, sym, refl, ap, subst, ⊎_elim, ltb-false, ltb-true}
 use Rattle.std.proofs.lemmas.Bool.{cases_Bool}
 use Rattle.faults.specs.declared.Refusal.{Refusal}
-use Rattle.stores.proofs.Runs.{ok_not_err, err_same}
 use Rattle.text.specs.Tokens.{Bytes, Placed}
 use Rattle.text.specs.declared.scanner.Part.{Part}
 use Rattle.expressions.specs.Grammar.{Expr}

@@ -3,7 +3,7 @@
 --   declared names l here lines   those of the lines from line l + 1 on, whose text is `here`, behind the names so far; or the first refusal:
 --                     12, then 13 or 14, then 23 for a name declared twice. The line of another kind is not looked at further
 --   declared_in text   those of a whole text
-use Rattle.std.specs.Prelude.{ℕ, Bool, false, cond, List, [], ◌∷◌, ◌++◌, Ok, Err, Result}
+use Rattle.std.specs.Prelude.{ℕ, false, cond, List, [], ◌∷◌, ◌++◌, Ok, Err, Result}
 use Rattle.faults.specs.declared.Refusal.{Refusal}
 use Rattle.lines.specs.Lines.{Line, lines_of}
 use Rattle.names.specs.Names.{fresh}

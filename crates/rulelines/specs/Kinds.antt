@@ -1,7 +1,7 @@
 -- What a rule line is, by its first token. Assumes nothing.
 --   kind_of line       blank, a `switch`, `rule` or `begin` line with the offset behind that word, or a foreign line
 --   next_line l        the number of the line behind line l; the largest number stays
-use Rattle.std.specs.Prelude.{ℕ, ◌+◌, ◌-◌, ◌^◌, min, Bool, false, cond, List, [], ◌∷◌, length, codes}
+use Rattle.std.specs.Prelude.{ℕ, ◌+◌, ◌-◌, ◌^◌, min, false, cond, List, [], ◌∷◌, length, codes}
 use Rattle.std.specs.Str.{bytes_eq}
 use Rattle.text.specs.Tokens.{Bytes, Tok, nought, unit, defined, not, and, or, opened, closed, name, other, Placed, tokens_at}
 use Rattle.rulelines.specs.declared.kind.LineKind.{LineKind}

@@ -1,12 +1,12 @@
 -- The ways that applying a rule can go.
-use Rattle.std.proofs.Common.{◌≡◌, ℕ, Bool, true, false, cond, List, Ok, Err, Result, sym, refl, ap, ◌∙◌, subst, inl, inr, arith}
+use Rattle.std.proofs.Common.{◌≡◌, ℕ, Bool, true, false, cond, List, Ok, Err, Result, sym, refl, ◌∙◌, subst, inl, inr}
 use Rattle.faults.specs.declared.Refusal.{Refusal}
 use Rattle.stores.specs.Model.{Model}
 use Rattle.stores.specs.Outcome.{Op, both, Outcome}
-use Rattle.stores.specs.Steps.{Steps, fail, ask, then, blamed, Runs}
+use Rattle.stores.specs.Steps.{fail, ask, then, blamed, Runs}
 use Rattle.stores.specs.Faults.{described as store}
 use Rattle.stores.specs.declared.fault.StoreFault.{StoreFault}
-use Rattle.stores.proofs.Runs.{ok_same, ok_not_err, err_same, runs_then, runs_refused, runs_blamed_ok, runs_blamed_err}
+use Rattle.stores.proofs.Runs.{ok_same, ok_not_err, runs_then, runs_refused, runs_blamed_ok, runs_blamed_err}
 use Rattle.text.specs.Tokens.{Bytes}
 use Rattle.expressions.specs.Grammar.{Expr}
 use Rattle.expressions.specs.Faults.{described as expression}
@@ -14,7 +14,7 @@ use Rattle.expressions.specs.declared.fault.ExpressionFault.{ExpressionFault}
 use Rattle.evaluation.specs.Worked.{worked}
 use Rattle.rulelines.specs.declared.fault.RuleFault.{RuleFault}
 use Rattle.rulelines.specs.declared.fault.RuleFault.TheVariants.{Store, Expression, Undeclared}
-use Rattle.rulelines.specs.Faults.{declarations, described}
+use Rattle.rulelines.specs.Faults.{declarations}
 use Rattle.rules.specs.Ruled.{Looked, Answer, known, rule}
 use Rattle.rules.specs.Turns.{blamed_on, NextSteps, Goes}
 

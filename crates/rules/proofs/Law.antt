@@ -1,5 +1,5 @@
 -- What the rules that a run has read allow.
-use Rattle.std.proofs.Common.{◌≡◌, ℕ, zero, suc, ◌+◌, ◌<◌, ◌≤◌, Bool, true, false, cond, ◌&&◌, ltb, ◌⊎◌, List, [], ◌∷◌, ◌++◌, length, get_or, Some, None, Ok, Err, Option, Result, sym, refl, ap, ◌∙◌, subst, ap₂, inl, inr, ⊎_elim, arith, length-append, lt-ltb}
+use Rattle.std.proofs.Common.{◌≡◌, ℕ, zero, suc, ◌+◌, ◌<◌, ◌≤◌, Bool, true, false, cond, ◌&&◌, ltb, List, [], ◌∷◌, ◌++◌, length, get_or, Some, None, Ok, Err, Option, Result, sym, refl, ap, ◌∙◌, subst, ⊎_elim, arith, length-append, lt-ltb}
 use Rattle.std.proofs.lemmas.Bool.{cases_lt}
 use Rattle.std.specs.Str.{bytes_eq}
 use lib.ListN.{get_or-append}
@@ -7,10 +7,9 @@ use lib.Seq.{get_or-append_seam}
 use Rattle.faults.specs.declared.Refusal.{Refusal}
 use Rattle.stores.specs.Sets.{Set, empty, ◌∩◌, on}
 use Rattle.stores.specs.Model.{Model, set_at, Appended}
-use Rattle.stores.specs.Outcome.{Op, switch, both, Accepted}
-use Rattle.stores.specs.Steps.{Steps, done, fail, ask, then, blamed, Runs}
+use Rattle.stores.specs.Outcome.{Op, switch, both}
+use Rattle.stores.specs.Steps.{Steps, fail, ask, then, blamed, Runs}
 use Rattle.stores.specs.Faults.{described}
-use Rattle.stores.specs.declared.fault.StoreFault.{StoreFault}
 use Rattle.stores.proofs.Models.{appended_none, appended_trans}
 use Rattle.stores.proofs.Runs.{ok_same, ok_not_err, runs_split, runs_appended, runs_unblamed}
 use Rattle.lines.specs.Lines.{Line, lines_of}
@@ -21,7 +20,7 @@ use Rattle.expressions.specs.Truth.{Env, truth}
 use Rattle.expressions.specs.Conditions.{condition_at, only_name, nothing_at}
 use Rattle.expressions.specs.Placed.{on_line, read_in, unless}
 use Rattle.evaluation.specs.Worked.{worked}
-use Rattle.evaluation.specs.Meaning.{Denotes, AgreesOn, Within, Entry, Named, Valued}
+use Rattle.evaluation.specs.Meaning.{Denotes, Entry, Named}
 use Rattle.evaluation.proofs.Later.{denotes_later, named_later}
 use Rattle.evaluation.proofs.Values.{worked_valued}
 use Rattle.rulelines.specs.declared.kind.LineKind.{LineKind}

@@ -1,9 +1,9 @@
 -- The ways that reading a line can go, by its kind.
-use Rattle.std.proofs.Common.{◌≡◌, ℕ, Bool, true, false, cond, ltb, List, length, None, Ok, Err, Result, sym, refl, ap, ◌∙◌, subst}
+use Rattle.std.proofs.Common.{◌≡◌, ℕ, Bool, true, false, cond, ltb, List, length, Ok, Err, Result, sym, refl, ap, subst}
 use Rattle.faults.specs.declared.Refusal.{Refusal}
 use Rattle.stores.specs.Model.{Model}
 use Rattle.stores.specs.Outcome.{Op}
-use Rattle.stores.specs.Steps.{Steps, fail, Runs}
+use Rattle.stores.specs.Steps.{Runs}
 use Rattle.text.specs.Tokens.{Bytes}
 use Rattle.expressions.specs.Conditions.{condition_at, only_name, nothing_at}
 use Rattle.expressions.specs.Placed.{read_in, unless}
@@ -17,9 +17,9 @@ use Rattle.rulelines.specs.declared.kind.LineKind.TheVariants.{Blank, Switch, Ru
 use Rattle.rules.specs.declared.reading.Turn.{Turn}
 use Rattle.rules.specs.declared.reading.Turn.TheVariants.{Next, Last}
 use Rattle.rulelines.specs.Faults.{declarations, described}
-use Rattle.rules.specs.Ruled.{Looked, Answer, rule, ended, misplaced, by_kind}
+use Rattle.rules.specs.Ruled.{Looked, rule, ended, misplaced, by_kind}
 use Rattle.rules.specs.Read.{lined}
-use Rattle.rules.specs.Turns.{NextSteps, Goes, Turned, foreign_line}
+use Rattle.rules.specs.Turns.{Goes, Turned, foreign_line}
 
 module _ {S : Type 0} (model : S → Model) (rollback : S → ℕ → S) (need : S → Op → ℕ) (names : List Bytes) (look : Looked) (none top acc l : ℕ) (line : Bytes) (kind : LineKind) where
   abbrev LineTurned : S → S → Result Turn RuleFault → Type 0

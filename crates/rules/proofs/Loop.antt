@@ -1,5 +1,5 @@
 -- The loop over rule lines.
-use Rattle.std.proofs.Common.{◌≡◌, ℕ, zero, suc, ◌<◌, ◌≤◌, true, false, eqb, List, [], ◌∷◌, length, Ok, Err, Result, sym, refl, ap, ◌∙◌, subst, arith, eqb-true}
+use Rattle.std.proofs.Common.{◌≡◌, ℕ, ◌<◌, List, [], ◌∷◌, length, Ok, Err, Result, sym, refl, subst, arith}
 use Rattle.faults.specs.declared.Refusal.{Refusal}
 use Rattle.stores.specs.Model.{Model}
 use Rattle.stores.specs.Outcome.{Op}

@@ -1,6 +1,6 @@
 -- The whole call over the rules.
-use Rattle.std.proofs.Common.{◌≡◌, ℕ, ◌<◌, Bool, true, false, cond, ◌&&◌, eqb, List, [], ◌∷◌, length, sym, refl, ap, ◌∙◌, subst, arith, Bor, eqb-true}
-use Rattle.stores.specs.Sets.{Set, empty}
+use Rattle.std.proofs.Common.{◌≡◌, ℕ, ◌<◌, Bool, true, false, cond, ◌&&◌, eqb, List, [], ◌∷◌, length, sym, refl, ap, subst, arith, Bor, eqb-true}
+use Rattle.stores.specs.Sets.{Set}
 use Rattle.stores.specs.Model.{Model, set_at, Consistent}
 use Rattle.evaluation.specs.Meaning.{Denotes}
 use Rattle.names.specs.Names.{texts, distinct}

@@ -4,12 +4,11 @@ use Rattle.std.proofs.lemmas.List.{take_more_set}
 use Rattle.faults.specs.declared.Refusal.{Refusal}
 use Rattle.stores.specs.Model.{Model}
 use Rattle.stores.specs.Outcome.{Op, switch, Outcome}
-use Rattle.stores.specs.Steps.{Steps, done, fail, ask, then, Runs}
+use Rattle.stores.specs.Steps.{Steps, done, ask, then, Runs}
 use Rattle.stores.specs.Faults.{described as store}
 use Rattle.stores.specs.declared.fault.StoreFault.{StoreFault}
 use Rattle.stores.proofs.Runs.{ok_same, ok_not_err, err_same, runs_then, runs_refused}
 use Rattle.rulelines.specs.declared.fault.RuleFault.{RuleFault}
-use Rattle.rulelines.specs.declared.fault.RuleFault.TheVariants.{Store}
 use Rattle.rulelines.specs.Faults.{described}
 use Rattle.rules.specs.Ruled.{switching}
 use Rattle.rules.specs.Turns.{blamed_on}

@@ -4,7 +4,7 @@
 --   RulesOutcome ..      the whole call: names that are not one for each switch, or of which two are alike, are refused with the store as it was;
 --                        else an attempt at `ruled`, with some numbers that hold the empty set and the allowed configurations
 --   lined content behind a line and what stands behind it
-use Rattle.std.specs.Prelude.{◌≡◌, ℕ, Bool, cond, ◌&&◌, List, length, Err, Result, ◌==◌}
+use Rattle.std.specs.Prelude.{◌≡◌, ℕ, cond, ◌&&◌, List, length, Err, Result, ◌==◌}
 use Rattle.stores.specs.Sets.{empty}
 use Rattle.stores.specs.Model.{Model}
 use Rattle.stores.specs.Outcome.{Op}

@@ -5,7 +5,7 @@
 --   Turned p .. r         the same for a whole line, which may also be the last
 --   foreign_line line l    the refusal of a line of no known kind
 --   all_known names is     every name among the steps is declared
-use Rattle.std.specs.Prelude.{◌≡◌, ℕ, Bool, true, cond, ◌&&◌, List, [], ◌∷◌, length, is_some, Ok, Err, Result, nat_lt}
+use Rattle.std.specs.Prelude.{ℕ, Bool, true, cond, ◌&&◌, List, [], ◌∷◌, length, is_some, Ok, Err, Result, nat_lt}
 use Rattle.faults.specs.declared.Refusal.{Refusal}
 use Rattle.stores.specs.Model.{Model}
 use Rattle.stores.specs.Outcome.{Op}

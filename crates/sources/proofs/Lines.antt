@@ -1,5 +1,5 @@
 -- The first line of a text, with its line feed.
-use Rattle.std.proofs.Common.{◌≡◌, ℕ, zero, suc, ◌+◌, ◌-◌, ◌<◌, ◌≤◌, Bool, true, false, cond, eqb, List, [], ◌∷◌, ◌++◌, length, take, sym, refl, ap, ◌∙◌, arith, length-append, take_all, eqb-true}
+use Rattle.std.proofs.Common.{◌≡◌, ℕ, zero, suc, ◌-◌, ◌<◌, ◌≤◌, Bool, true, false, cond, eqb, List, [], ◌∷◌, ◌++◌, length, take, sym, refl, ap, ◌∙◌, arith, length-append, take_all, eqb-true}
 use lib.Seq.{take-append-le}
 use Rattle.text.specs.Tokens.{Bytes}
 use Rattle.lines.specs.Lines.{until_feed, past_feed}

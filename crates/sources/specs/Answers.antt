@@ -3,7 +3,7 @@
 --   shown s y         what the line y of the code is, where s is the line's bytes without the line feed
 --   seen x            what the line x of the definition is
 --   Classifies l z r  the answer r on the line l is what the definition's z says: the same line, or the same refusal
-use Rattle.std.specs.Prelude.{◌≡◌, ℕ, Bool, true, false, List, take, Ok, Err, Result}
+use Rattle.std.specs.Prelude.{◌≡◌, Bool, true, false, List, take, Ok, Err, Result}
 use Rattle.faults.specs.declared.Refusal.{Refusal}
 use Rattle.text.specs.Tokens.{Bytes}
 use Rattle.expressions.specs.Conditions.{Item, items, postfix}
@@ -12,7 +12,6 @@ use Rattle.sources.specs.declared.fault.SourceFault.{SourceFault}
 use Rattle.sources.specs.declared.line.Line.{Line}
 use Rattle.sources.specs.declared.line.Line.TheVariants as code
 use Rattle.sources.specs.Classified as definition
-use Rattle.sources.specs.Lines.{content}
 use Rattle.sources.specs.Faults.{described}
 
 pub data Seen : Type 0 where

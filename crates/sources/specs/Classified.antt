@@ -10,7 +10,7 @@
 --   made d l s k       the line l, whose bytes without the line feed are s, with the directive d, whose name ends at offset k
 --   kind o n l         line number n, with its directive, if it has one: the line's length first, then what stands behind the name
 --   classified last c n l   line number n, begun inside a block comment (c) or in code; `last` tells whether it is the source's last. Refusals 9 to 16
-use Rattle.std.specs.Prelude.{ℕ, ◌-◌, Bool, true, false, cond, ◌&&◌, ◌||◌, List, [], ◌∷◌, length, Some, None, Ok, Err, Option, Result, ◌==◌}
+use Rattle.std.specs.Prelude.{ℕ, ◌-◌, Bool, true, false, cond, ◌&&◌, ◌||◌, length, Some, None, Ok, Err, Option, Result, ◌==◌}
 use Rattle.faults.specs.declared.Refusal.{Refusal}
 use Rattle.text.specs.Tokens.{Bytes}
 use Rattle.expressions.specs.Grammar.{Expr, named, neg}

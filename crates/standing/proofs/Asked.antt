@@ -1,16 +1,16 @@
 -- The ways that finding out how a switch stands can go, and what each says of the allowed configurations.
-use Rattle.std.proofs.Common.{◌≡◌, ℕ, zero, suc, ◌^◌, ◌<◌, ◌≤◌, Bool, true, false, cond, not, ◌&&◌, ◌⊎◌, length, IfOk, Some, None, Ok, Err, Option, Result, sym, refl, ap, ◌∙◌, subst, inl, inr, ⊎_elim, arith}
+use Rattle.std.proofs.Common.{◌≡◌, ℕ, zero, suc, ◌^◌, ◌<◌, ◌≤◌, Bool, true, false, cond, not, ◌&&◌, ◌⊎◌, length, IfOk, Ok, Err, Result, sym, refl, ap, ◌∙◌, subst, inl, inr, ⊎_elim, arith}
 use Rattle.std.proofs.lemmas.Bool.{cases_Bool, cases_eq, cases_lt}
-use Rattle.stores.specs.Sets.{Set, Empty, ◌∩◌, ◌∖◌, on, LowestIf, Lowest}
+use Rattle.stores.specs.Sets.{Set, Empty, ◌∖◌, on}
 use Rattle.stores.specs.Model.{Model, set_at, Consistent}
 use Rattle.stores.specs.Outcome.{Op, switch, less, Accepted, Refused}
-use Rattle.stores.specs.Steps.{Steps, done, ask, test, TellsEmpty, Runs}
+use Rattle.stores.specs.Steps.{done, ask, test, TellsEmpty, Runs}
 use Rattle.stores.specs.declared.fault.StoreFault.{StoreFault}
 use Rattle.stores.proofs.Models.{set_before}
 use Rattle.stores.proofs.Runs.{ok_same, ok_not_err}
 use Rattle.standing.specs.declared.verdict.Standing.{Standing}
 use Rattle.standing.specs.declared.verdict.Standing.TheVariants.{Free, On, Off}
-use Rattle.standing.specs.Standing.{Has, Lacks, Stands, asking}
+use Rattle.standing.specs.Standing.{Stands, asking}
 
 module _ {S : Type 0} (model : S → Model) (rollback : S → ℕ → S) (need : S → Op → ℕ) (top i : ℕ) where
   pub no_switch : (s s₁ : S) (f : StoreFault) (r : Result Standing StoreFault) → Refused model s s₁ (need s (switch i)) (switch i) f → r ≡ Err f → Runs model rollback need (asking top i) s s₁ r

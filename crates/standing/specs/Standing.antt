@@ -2,7 +2,7 @@
 --   Stands A i v        `On`: every configuration of A has switch i on; `Off`: none has; `Free`: some have and some have not
 --   asking i            what finding it out asks of a store: the configurations with the switch on, and then, where there are some, those without
 --   StandingOutcome     answered: how the switch stands; refused: the first refusal due. The store is as it was either way
-use Rattle.std.specs.Prelude.{◌≡◌, ℕ, Bool, true, false, cond, Ok, Err, Result}
+use Rattle.std.specs.Prelude.{◌≡◌, ℕ, true, false, cond, Result}
 use Rattle.stores.specs.Sets.{Set, on}
 use Rattle.stores.specs.Model.{Model}
 use Rattle.stores.specs.Outcome.{Op, switch, less}

@@ -1,10 +1,10 @@
 -- Runs of steps, one after another.
-use Rattle.std.proofs.Common.{◌≡◌, ℕ, ◌+◌, Bool, true, false, ◌⊎◌, is_some, Some, None, Ok, Err, Option, Result, sym, refl, ap, ◌∙◌, subst, inl, inr, ⊎_elim, arith}
+use Rattle.std.proofs.Common.{◌≡◌, ℕ, ◌+◌, true, false, is_some, Some, None, Ok, Err, Option, Result, sym, refl, ap, ◌∙◌, subst, inl, inr, ⊎_elim, arith}
 use mathlib.Core.Path.{fun_ext}
 use Rattle.stores.specs.Sets.{Set, Empty, LowestIf}
 use Rattle.stores.specs.Model.{Model, Appended}
-use Rattle.stores.specs.Outcome.{Op, Accepted, Refused, Outcome}
-use Rattle.stores.specs.Steps.{Steps, done, fail, ask, test, then, blamed, asked, Runs, Attempt}
+use Rattle.stores.specs.Outcome.{Op, Accepted, Refused}
+use Rattle.stores.specs.Steps.{Steps, done, fail, ask, test, then, blamed, asked, Runs}
 use Rattle.stores.proofs.Models.{appended_none, appended_trans}
 use Rattle.stores.specs.declared.fault.StoreFault.{StoreFault}
 

@@ -8,7 +8,7 @@
 --   Appended m m' k  exactly k sets were appended, and none before them changed
 --   kept m to        how many sets a release to `to` leaves
 --   CutTo m m' to    the held sets were cut as a release to `to` cuts them
-use Rattle.std.specs.Prelude.{◌≡◌, ℕ, ◌+◌, ◌^◌, ◌<◌, ◌≤◌, min, max, Bool, true, false, List, length, take, slice_index_or}
+use Rattle.std.specs.Prelude.{◌≡◌, ℕ, ◌+◌, ◌^◌, ◌<◌, ◌≤◌, min, max, true, List, length, take, slice_index_or}
 use Rattle.stores.specs.Sets.{Set, empty, Empty}
 
 pub record Model : Type 0 where

@@ -10,7 +10,7 @@
 --   CutBack s s' to         the value that a release to `to` leaves
 --   Advanced s s'           still valid, and extended by some number of sets
 --   HoldsOutcome, FindOutcome   the two questions
-use Rattle.std.specs.Prelude.{◌≡◌, ℕ, ◌+◌, ◌-◌, ◌^◌, ◌<◌, ◌≤◌, Bool, true, false, cond, ◌&&◌, length, Some, None, Ok, Err, Option, Result, nat_lt}
+use Rattle.std.specs.Prelude.{◌≡◌, ℕ, ◌-◌, ◌^◌, ◌<◌, ◌≤◌, Bool, cond, ◌&&◌, length, Some, None, Ok, Err, Option, Result, nat_lt}
 use Rattle.stores.specs.Sets.{Set, ◌∩◌, ◌∪◌, ◌∖◌, on, LowestIf}
 use Rattle.stores.specs.Model.{Model, set_at, kept, Appended, CutTo}
 use Rattle.stores.specs.declared.fault.StoreFault.{StoreFault}

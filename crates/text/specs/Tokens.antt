@@ -6,7 +6,7 @@
 --   word w           what a run is: `0`, `1`, `defined`, a name of at most 63 bytes, or no token of the grammar
 --   front s          the token that begins s, and how long it is
 --   tokens_at c line from   the tokens of the line (without its line feed) from offset `from` on
-use Rattle.std.specs.Prelude.{ℕ, zero, suc, ◌+◌, Bool, true, false, cond, ◌&&◌, ◌||◌, List, [], ◌∷◌, length, drop, codes, ◌==◌, nat_le, slice_index}
+use Rattle.std.specs.Prelude.{ℕ, zero, suc, ◌+◌, Bool, cond, ◌&&◌, ◌||◌, List, [], ◌∷◌, length, drop, codes, ◌==◌, nat_le, slice_index}
 use Rattle.std.specs.Str.{bytes_eq}
 use Rattle.text.specs.Classes.{letter, digit, blank}
 

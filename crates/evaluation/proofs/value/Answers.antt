@@ -1,10 +1,7 @@
-use Rattle.std.proofs.Common.{◌≡◌, ℕ, List, Ok, Option, sym, refl, ap, ◌∙◌, subst, arith}
+use Rattle.std.proofs.Common.{ℕ, List, Ok, refl, ap, ◌∙◌, arith}
 use Rattle.stores.specs.Outcome.{both, either, less}
-use Rattle.stores.specs.Steps.{Runs}
 use Rattle.stores.proofs.Models.{advanced_none, advanced_op}
-use Rattle.expressions.specs.Conditions.{item_at}
-use Rattle.expressions.specs.declared.condition.Step.{Step}
-use Rattle.evaluation.specs.Worked.{one, popped, first, rest, stacked, entry_or}
+use Rattle.evaluation.specs.Worked.{rest, stacked}
 use Rattle.evaluation.proofs.Turns.{runs_at, popped_at, runs_not, runs_two, entry_default}
 use Rattle.evaluation.proofs.value.Goals as goal
 

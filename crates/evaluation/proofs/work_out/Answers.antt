@@ -1,6 +1,6 @@
-use Rattle.std.proofs.Common.{◌≡◌, ℕ, List, ap, ◌∙◌, ap₂}
+use Rattle.std.proofs.Common.{◌≡◌, ℕ, List, ◌∙◌, ap₂}
 use Rattle.expressions.specs.Grammar.{Expr}
-use Rattle.expressions.specs.Conditions.{Item, items, postfix}
+use Rattle.expressions.specs.Conditions.{items, postfix}
 use Rattle.expressions.specs.declared.condition.Step.{Step}
 use Rattle.evaluation.specs.Worked.{steps_of}
 use Rattle.evaluation.proofs.Values.{machine_runs, worked_made}

@@ -1,4 +1,4 @@
-use Rattle.std.proofs.Common.{◌≡◌, ℕ, Bool, IfErr, Err, vec_items, Result, Vec, sym, refl, ap, ◌∙◌, subst}
+use Rattle.std.proofs.Common.{ℕ, IfErr, Err, vec_items, Result, Vec, sym, refl, ap, ◌∙◌, subst}
 use Rattle.stores.specs.Sets.{Set}
 use Rattle.stores.specs.Model.{set_at}
 use Rattle.layers.specs.Layered.{layer_model, LayerValid}

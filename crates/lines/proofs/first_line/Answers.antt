@@ -1,6 +1,5 @@
-use Rattle.std.proofs.Common.{◌≡◌, ℕ, ◌+◌, ◌-◌, ◌<◌, List, [], length, take, drop, sym, refl, ap, ◌∙◌, arith, take_all, eq-eqb, ne_eqb}
+use Rattle.std.proofs.Common.{◌≡◌, ℕ, ◌+◌, ◌-◌, length, take, sym, refl, ap, ◌∙◌, arith, eq-eqb, ne_eqb}
 use Rattle.std.proofs.lemmas.List.{drop_all, take_rest}
-use Rattle.lines.specs.Lines.{past_feed}
 use Rattle.lines.proofs.Lines.{passed_more, passed_feed, passed_all, first_line_is, past_less, divided_at}
 use Rattle.lines.proofs.first_line.Goals as goal
 

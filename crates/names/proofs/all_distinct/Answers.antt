@@ -1,4 +1,4 @@
-use Rattle.std.proofs.Common.{◌≡◌, true, false, sym, ◌∙◌}
+use Rattle.std.proofs.Common.{true, false, sym, ◌∙◌}
 use Rattle.names.proofs.Turns.{distinct_turn, distinct_end}
 use Rattle.names.proofs.all_distinct.Goals as goal
 

@@ -1,4 +1,4 @@
-use Rattle.std.proofs.Common.{◌≡◌, true, false, sym, ◌∙◌}
+use Rattle.std.proofs.Common.{true, false, sym, ◌∙◌}
 use Rattle.names.proofs.Turns.{index_turn, index_end}
 use Rattle.names.proofs.index_of.Goals as goal
 

@@ -1,6 +1,5 @@
-use Rattle.std.proofs.Common.{◌≡◌, ℕ, ◌^◌, ◌<◌, ◌≤◌, List, length, sym, ap, ◌∙◌, subst, arith}
+use Rattle.std.proofs.Common.{ℕ, ◌^◌, ◌<◌, ◌≤◌, length, sym, subst, arith}
 use Rattle.names.specs.Names.{texts}
-use Rattle.text.specs.Tokens.{Bytes}
 use Rattle.sources.specs.Lines.{is_too_large}
 use Rattle.preprocessing.proofs.Turns.{length_texts}
 use Rattle.preprocessing.proofs.Wanted.{too_many, alike, beyond, too_large, sized, starts, first, shifted, small, right_size}

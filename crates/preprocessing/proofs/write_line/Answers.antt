@@ -1,9 +1,8 @@
-use Rattle.std.proofs.Common.{◌≡◌, ℕ, ◌≤◌, Bool, true, false, cond, List, [], ◌++◌, length, vec_items, sym, refl, ap, ◌∙◌, subst, arith}
+use Rattle.std.proofs.Common.{◌≡◌, ◌≤◌, cond, List, [], ◌++◌, length, vec_items, ap, ◌∙◌, subst, arith}
 use Rattle.text.specs.Tokens.{Bytes}
 use Rattle.conditionals.specs.Answers.{shape_of}
 use Rattle.sources.specs.Classified.{Line}
 use Rattle.sources.specs.Answers.{shown, seen}
-use Rattle.names.specs.Names.{texts}
 use Rattle.preprocessor.specs.Plain.{State, step}
 use Rattle.preprocessor.specs.Represented.{Represents, Ready}
 use Rattle.preprocessing.proofs.Turns.{turn, length_texts, written, unwritten}

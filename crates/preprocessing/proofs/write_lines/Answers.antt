@@ -1,12 +1,7 @@
-use Rattle.std.proofs.Common.{◌≡◌, ℕ, suc, ◌+◌, ◌<◌, Bool, true, false, cond, List, [], ◌∷◌, ◌++◌, length, Ok, Err, vec_items, Result, Vec, sym, refl, ap, ◌∙◌, subst, add-one, arith}
-use Rattle.std.specs.declared.alloc.Global.{Global}
+use Rattle.std.proofs.Common.{suc, ◌+◌, ◌∷◌, length, Err, vec_items, sym, ap, ◌∙◌, subst, add-one, arith}
 use Rattle.std.proofs.lemmas.Result.{err_from_is_err_and}
-use Rattle.text.specs.Tokens.{Bytes}
-use Rattle.scanning.specs.Modes.{open_after}
 use Rattle.sources.specs.Lines.{lines}
-use Rattle.preprocessing.specs.declared.fault.PreprocessingFault.{PreprocessingFault}
 use Rattle.preprocessing.specs.Outcome.{Answers}
-use Rattle.preprocessing.specs.Lines.{Answer, Going}
 use Rattle.preprocessing.proofs.Turns.{nil_lines, going_by, going_at, finished, no_lines, not_empty, is_empty}
 use Rattle.preprocessing.proofs.write_lines.Goals as goal
 

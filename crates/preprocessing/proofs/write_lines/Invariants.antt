@@ -1,4 +1,4 @@
-use Rattle.std.proofs.Common.{suc, ◌+◌, ◌≤◌, false, [], length, vec_items}
+use Rattle.std.proofs.Common.{◌+◌, ◌≤◌, false, [], length, vec_items}
 use Rattle.sources.specs.Lines.{lines}
 use Rattle.preprocessing.specs.Lines.{Answer, Going}
 use Rattle.preprocessing.proofs.write_lines.Given as goal

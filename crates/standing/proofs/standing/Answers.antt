@@ -1,4 +1,4 @@
-use Rattle.std.proofs.Common.{◌≡◌, ℕ, ◌<◌, length, arith}
+use Rattle.std.proofs.Common.{◌<◌, length, arith}
 use Rattle.stores.proofs.Models.{release_restores}
 use Rattle.standing.proofs.Asked.{stands}
 use Rattle.standing.proofs.standing.Goals as goal

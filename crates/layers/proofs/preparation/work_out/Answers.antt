@@ -1,4 +1,4 @@
-use Rattle.std.proofs.Common.{◌<◌, refl, arith}
+use Rattle.std.proofs.Common.{refl, arith}
 use Rattle.layers.proofs.Switching.{first_refused, none_allowed, begun_some, turn_first, turn_more, turn_last, switch_refused, both_refused}
 use Rattle.layers.proofs.preparation.work_out.Goals as goal
 

@@ -1,4 +1,4 @@
-use Rattle.std.proofs.Common.{◌≡◌, length, Err, vec_items, Result, sym, ap, ◌∙◌, subst}
+use Rattle.std.proofs.Common.{length, Err, vec_items, Result, sym, ap, ◌∙◌, subst}
 use Rattle.std.proofs.lemmas.Result.{err_from_is_err_and}
 use Rattle.names.specs.Names.{texts}
 use Rattle.rulelines.specs.declared.declaration.Declarations.{Declarations}

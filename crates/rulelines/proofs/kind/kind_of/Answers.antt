@@ -1,4 +1,4 @@
-use Rattle.std.proofs.Common.{◌≡◌, ℕ, ◌-◌, ◌≤◌, length, take, drop, ap, ◌∙◌, arith, length-drop, length-take}
+use Rattle.std.proofs.Common.{◌-◌, length, drop, ap, arith, length-drop, length-take}
 use Rattle.rulelines.proofs.kind.kind_of.Goals as goal
 
 -- a word lies within its line

@@ -1,8 +1,5 @@
-use Rattle.std.proofs.Common.{◌≡◌, ℕ, true, false, List, sym, ap, ◌∙◌, ap₂}
+use Rattle.std.proofs.Common.{true, false, sym, ◌∙◌}
 use Rattle.names.specs.Names.{texts}
-use Rattle.expressions.specs.Conditions.{items}
-use Rattle.expressions.specs.declared.condition.Step.{Step}
-use Rattle.rules.specs.Turns.{all_known}
 use Rattle.rules.proofs.Known.{known_turn, known_end, known_condition}
 use Rattle.rules.proofs.reading.all_declared.Goals as goal
 

@@ -1,12 +1,10 @@
-use Rattle.std.proofs.Common.{◌≡◌, ℕ, Bool, true, false, List, Ok, Err, sym, ap, ◌∙◌, subst}
+use Rattle.std.proofs.Common.{true, false, Ok, Err, ap, ◌∙◌}
 use Rattle.std.proofs.lemmas.Result.{err_from_is_err_and}
 use Rattle.stores.specs.Outcome.{both}
 use Rattle.stores.proofs.Models.{advanced_none, advanced_op, advanced_trans}
-use Rattle.expressions.specs.Conditions.{condition_at, items, postfix}
+use Rattle.expressions.specs.Conditions.{condition_at}
 use Rattle.expressions.specs.Placed.{read_in}
-use Rattle.evaluation.specs.Worked.{steps_of}
 use Rattle.rules.specs.Read.{names, lookup}
-use Rattle.rules.specs.Turns.{all_known}
 use Rattle.rulelines.proofs.Parsed.{condition_read}
 use Rattle.rules.proofs.Known.{known_read, steps_read}
 use Rattle.rules.proofs.Applied.{unread, undeclared, unworked, met}

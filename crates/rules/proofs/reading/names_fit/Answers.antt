@@ -1,4 +1,4 @@
-use Rattle.std.proofs.Common.{◌≡◌, ℕ, Bool, true, false, ◌&&◌, eqb, length, sym, ap, ◌∙◌, eq-eqb, ne_eqb}
+use Rattle.std.proofs.Common.{ℕ, Bool, ◌&&◌, eqb, length, sym, ap, ◌∙◌, eq-eqb, ne_eqb}
 use Rattle.names.specs.Names.{texts, distinct}
 use Rattle.rules.proofs.Rules.{length_texts}
 use Rattle.rules.proofs.reading.names_fit.Goals as goal

@@ -1,4 +1,4 @@
-use Rattle.std.proofs.Common.{◌≡◌, false, Ok, Err, ap, ◌∙◌}
+use Rattle.std.proofs.Common.{false, Ok, Err, ap, ◌∙◌}
 use Rattle.text.specs.Tokens.{tokens_at}
 use Rattle.expressions.specs.Conditions.{only_name, nothing_at}
 use Rattle.rulelines.proofs.Parsed.{name_read, nothing_read}

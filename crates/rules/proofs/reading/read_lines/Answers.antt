@@ -1,14 +1,12 @@
-use Rattle.std.proofs.Common.{◌≡◌, ℕ, ◌<◌, length, Ok, Err, Result, sym, refl, ap, ◌∙◌, subst, arith}
+use Rattle.std.proofs.Common.{length, Err, Result, sym, ap, ◌∙◌, subst}
 use Rattle.std.proofs.lemmas.Result.{err_from_is_err_and}
 use Rattle.stores.specs.Steps.{Runs}
 use Rattle.stores.proofs.Models.{advanced_none, advanced_trans}
 use Rattle.lines.specs.Lines.{lines_of}
 use Rattle.rulelines.specs.declared.fault.RuleFault.{RuleFault}
 use Rattle.rules.specs.declared.reading.Rules.{Rules}
-use Rattle.rules.specs.declared.reading.Turn.{Turn}
 use Rattle.rules.specs.declared.reading.Turn.TheVariants.{Next, Last}
-use Rattle.rulelines.specs.Kinds.{kind_of}
-use Rattle.rules.specs.Read.{names, lookup, lined, answer_of}
+use Rattle.rules.specs.Read.{names, lookup, answer_of}
 use Rattle.rules.specs.Ruled.{ruling}
 use Rattle.rules.specs.Turns.{seen}
 use Rattle.rules.proofs.Loop.{goes_start, goes_more, goes_last, goes_refused, goes_end, turned_by}

@@ -1,4 +1,4 @@
-use Rattle.std.proofs.Common.{◌≡◌, ℕ, true, false, ◌&&◌, eqb, length, Ok, Err, sym, refl, ap, ◌∙◌, subst}
+use Rattle.std.proofs.Common.{◌≡◌, ℕ, true, false, ◌&&◌, eqb, length, Ok, sym, refl, subst}
 use Rattle.stores.specs.Sets.{empty}
 use Rattle.stores.specs.Steps.{Attempt}
 use Rattle.stores.specs.Outcome.{Advanced}
@@ -6,11 +6,9 @@ use Rattle.stores.proofs.Models.{advanced_none, extends_same, release_restores}
 use Rattle.lines.specs.Lines.{lines_of}
 use Rattle.names.specs.Names.{texts, distinct}
 use Rattle.evaluation.specs.Meaning.{Denotes}
-use Rattle.rulelines.specs.declared.fault.RuleFault.TheVariants.{Names}
 use Rattle.rules.specs.Allowed.{allowed_by}
 use Rattle.rules.specs.Read.{answer_of}
 use Rattle.rules.specs.Ruled.{ruled}
-use Rattle.rules.specs.Turns.{seen}
 use Rattle.rules.proofs.Law.{ruled_law}
 use Rattle.rules.proofs.Rules.{one_each, when_true, when_false, constant}
 use Rattle.rules.proofs.reading.read_rules.Goals as goal

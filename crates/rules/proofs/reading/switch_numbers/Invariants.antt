@@ -1,4 +1,4 @@
-use Rattle.std.proofs.Common.{◌≡◌, ◌≤◌, length, take}
+use Rattle.std.proofs.Common.{◌≡◌, length, take}
 use Rattle.stores.specs.Outcome.{Advanced}
 use Rattle.rules.proofs.Switching.{GoesOn}
 use Rattle.rules.proofs.reading.switch_numbers.Given as goal

@@ -1,5 +1,5 @@
-use Rattle.std.proofs.Common.{◌≡◌, ℕ, ◌<◌, List, sym, ap, arith}
-use Rattle.evaluation.specs.Worked.{first, rest, stacked}
+use Rattle.std.proofs.Common.{sym, ap, arith}
+use Rattle.evaluation.specs.Worked.{first, rest}
 use Rattle.evaluation.proofs.Machine.{stacked_pop}
 use Rattle.evaluation.proofs.stack.Stack.pop.Goals as goal
 

@@ -1,4 +1,4 @@
-use Rattle.std.proofs.Common.{◌≡◌, ℕ, suc, ◌+◌, ◌<◌, List, length, set, sym, ap, ◌∙◌, add-one, arith}
+use Rattle.std.proofs.Common.{set, ap, ◌∙◌, add-one, arith}
 use Rattle.evaluation.specs.Worked.{stacked}
 use Rattle.evaluation.proofs.Machine.{stacked_push}
 use Rattle.evaluation.proofs.stack.Stack.push.Goals as goal

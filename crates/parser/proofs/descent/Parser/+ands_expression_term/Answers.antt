@@ -1,11 +1,11 @@
-use Rattle.std.proofs.Common.{◌-◌, sym, refl, ap, ◌∙◌, arith}
+use Rattle.std.proofs.Common.{◌-◌, sym, refl, ap, arith}
 use Rattle.text.specs.Tokens.{nought, unit, name, not, opened}
 use Rattle.text.specs.Pulling.{placed}
-use Rattle.expressions.specs.Grammar.{never, always, conj, disj, is_and, is_or, term, ands_of, expr}
+use Rattle.expressions.specs.Grammar.{never, always, conj, disj, is_and, is_or, term, ands_of}
 use Rattle.expressions.specs.Conditions.{kinds, postfix, false-item, true-item, and_item, or-item}
 use Rattle.expressions.specs.Faults.{described}
 use Rattle.parser.specs.Parsing.{ahead}
-use Rattle.parser.proofs.Parts.{exits, room_behind, room_later, still_ready, next_ahead, some_ahead}
+use Rattle.parser.proofs.Parts.{exits, room_later, still_ready, next_ahead}
 use Rattle.parser.proofs.Loops.{begun, unbegun, shorter, again, ends, breaks}
 use Rattle.parser.proofs.Arms.{term_zero, term_one, deep_not, deep_open, wrong_name, constant, wrong, unfit, behind_defined, negated, not_refused, grouped, open_refused}
 use Rattle.parser.proofs.descent.Parser.+ands_expression_term.Goals as goal

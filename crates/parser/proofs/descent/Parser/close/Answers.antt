@@ -1,4 +1,4 @@
-use Rattle.std.proofs.Common.{sym, refl, ap, ◌∙◌}
+use Rattle.std.proofs.Common.{sym, ap}
 use Rattle.expressions.specs.Faults.{described}
 use Rattle.parser.proofs.Parts.{close_yes, close_no}
 use Rattle.parser.proofs.descent.Parser.close.Goals as goal

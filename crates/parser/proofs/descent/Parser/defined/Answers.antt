@@ -1,4 +1,4 @@
-use Rattle.std.proofs.Common.{sym, refl, ap, ◌∙◌, subst}
+use Rattle.std.proofs.Common.{sym, subst}
 use Rattle.expressions.specs.Grammar.{Out, closing}
 use Rattle.expressions.specs.Conditions.{kinds, postfix}
 use Rattle.parser.specs.Parsing.{ahead, name_first, Outcome}
