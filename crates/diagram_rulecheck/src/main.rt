@@ -6,15 +6,16 @@ use anyhow::anyhow;
 use judging::fault::JudgingFault;
 use rulefiles::{Judgement, judge};
 use std::io::Read;
+use std::process::ExitCode;
 
 // Room for all the cells that a diagram store uses.
 const WORDS: usize = 1_090 + 4 * 65_535;
 
-fn refuse(rt: &HostRuntime, fault: JudgingFault) -> anyhow::Result<()> {
+fn refuse(rt: &HostRuntime, fault: JudgingFault) -> anyhow::Result<ExitCode> {
     match fault.refusal() {
         Some(refusal) => {
             println!(rt; "{refusal}")?;
-            Err(anyhow!("refused"))
+            Ok(ExitCode::FAILURE)
         }
         None => Err(anyhow!("out of memory")),
     }
@@ -33,13 +34,16 @@ fn print(rt: &HostRuntime, judgement: &Judgement<'_>) -> anyhow::Result<()> {
     Ok(println!(rt; "lowest {lowest}")?)
 }
 
-fn main(rt: HostRuntime) -> anyhow::Result<()> {
+fn main(rt: HostRuntime) -> anyhow::Result<ExitCode> {
     let heap = rt.alloc();
     let mut text = Vec::new(heap);
     rt.stdin().read_to_end(&mut text)?;
     let mut words = vec![in heap; 0u32; WORDS]?;
     match judge(heap, text.as_slice(), words.as_mut_slice()) {
-        Ok(judgement) => print(&rt, &judgement),
+        Ok(judgement) => {
+            print(&rt, &judgement)?;
+            Ok(ExitCode::SUCCESS)
+        }
         Err(fault) => refuse(&rt, fault),
     }
 }

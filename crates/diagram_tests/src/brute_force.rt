@@ -523,11 +523,11 @@ fn check_answer<S: Store>(
     let table = match model.result(act) {
         Ok(table) => table,
         Err(fault) => {
-            count(if fault == StoreFault::NoSwitch {
-                &mut tally.no_switch
+            if fault == StoreFault::NoSwitch {
+                count(&mut tally.no_switch);
             } else {
-                &mut tally.no_number
-            });
+                count(&mut tally.no_number);
+            }
             assert_eq!(rt; answer, Err(fault));
             return Ok(());
         }
@@ -538,11 +538,11 @@ fn check_answer<S: Store>(
         assert_eq!(rt; answer, Err(StoreFault::Full));
         return Ok(());
     }
-    count(if missing.is_empty() {
-        &mut tally.found
+    if missing.is_empty() {
+        count(&mut tally.found);
     } else {
-        &mut tally.grown
-    });
+        count(&mut tally.grown);
+    }
     check_new(rt, store, model, missing.as_slice())?;
     model.kept.push(act)?;
     assert_eq!(rt;

@@ -8,6 +8,7 @@ use preprocessing::fault::PreprocessingFault;
 use preprocessing::preprocess;
 use std::env;
 use std::io::{Read, Write};
+use std::process::ExitCode;
 
 // A switch as an option declares it.
 #[derive(Clone, Copy)]
@@ -29,11 +30,11 @@ fn switch_of(option: &[u8]) -> Option<Switch<'_>> {
     }
 }
 
-fn refuse(rt: &HostRuntime, fault: PreprocessingFault) -> anyhow::Result<()> {
+fn refuse(rt: &HostRuntime, fault: PreprocessingFault) -> anyhow::Result<ExitCode> {
     match fault.refusal() {
         Some(refusal) => {
             println!(rt; "{refusal}")?;
-            Err(anyhow!("refused"))
+            Ok(ExitCode::FAILURE)
         }
         None => Err(anyhow!("out of memory")),
     }
@@ -45,14 +46,14 @@ fn bit(i: usize) -> u32 {
 }
 
 // Writes what the options' configuration keeps of the source.
-fn run(rt: &HostRuntime, options: &[String], source: &[u8]) -> anyhow::Result<()> {
+fn run(rt: &HostRuntime, options: &[String], source: &[u8]) -> anyhow::Result<ExitCode> {
     let heap = rt.alloc();
     let mut names = Vec::new(heap);
     let mut configuration = 0u32;
     for (i, option) in options.iter().enumerate() {
         let Some(switch) = switch_of(option.as_bytes()) else {
             eprintln!(rt; "usage: preprocess [-DNAME | -UNAME]... < SOURCE")?;
-            return Err(anyhow!("usage"));
+            return Ok(ExitCode::FAILURE);
         };
         names.push(switch.name)?;
         if switch.on {
@@ -60,12 +61,15 @@ fn run(rt: &HostRuntime, options: &[String], source: &[u8]) -> anyhow::Result<()
         }
     }
     match preprocess(heap, names.as_slice(), configuration, source) {
-        Ok(output) => Ok(rt.stdout().write_all(output.as_slice())?),
+        Ok(output) => {
+            rt.stdout().write_all(output.as_slice())?;
+            Ok(ExitCode::SUCCESS)
+        }
         Err(fault) => refuse(rt, fault),
     }
 }
 
-fn main(rt: HostRuntime) -> anyhow::Result<()> {
+fn main(rt: HostRuntime) -> anyhow::Result<ExitCode> {
     let heap = rt.alloc();
     let mut options = Vec::new(heap);
     for option in env::args(&rt)?.skip(1) {

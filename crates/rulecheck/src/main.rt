@@ -6,27 +6,31 @@ use anyhow::anyhow;
 use judging::fault::JudgingFault;
 use judging::judge;
 use std::io::Read;
+use std::process::ExitCode;
 
 // Room for 1,024 sets of 10 switches, and for more of fewer.
 const WORDS: usize = 2 + 1024 * 16;
 
-fn refuse(rt: &HostRuntime, fault: JudgingFault) -> anyhow::Result<()> {
+fn refuse(rt: &HostRuntime, fault: JudgingFault) -> anyhow::Result<ExitCode> {
     match fault.refusal() {
         Some(refusal) => {
             println!(rt; "{refusal}")?;
-            Err(anyhow!("refused"))
+            Ok(ExitCode::FAILURE)
         }
         None => Err(anyhow!("out of memory")),
     }
 }
 
-fn main(rt: HostRuntime) -> anyhow::Result<()> {
+fn main(rt: HostRuntime) -> anyhow::Result<ExitCode> {
     let heap = rt.alloc();
     let mut text = Vec::new(heap);
     rt.stdin().read_to_end(&mut text)?;
     let mut words = vec![in heap; 0u64; WORDS]?;
     match judge(heap, text.as_slice(), words.as_mut_slice()) {
-        Ok(judgement) => Ok(print!(rt; "{judgement}")?),
+        Ok(judgement) => {
+            print!(rt; "{judgement}")?;
+            Ok(ExitCode::SUCCESS)
+        }
         Err(fault) => refuse(&rt, fault),
     }
 }
