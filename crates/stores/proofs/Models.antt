@@ -27,12 +27,12 @@ appended_trans {a} {b} {c} {p} {q} g h =
 pub appended_none : (m : Model) → Appended m m 0
 appended_none m = record { same = unmoved_refl m; before = take_all (length m.held) m.held (omega arith); len = omega arith }
 
-module _ {S : Type 0} {valid : S → Type 0} {model : S → Model} {rollback : S → ℕ → S} (laws : RollbackLaws valid model rollback) where
-  pub extends_none : {a : S} → valid a → Extends model rollback a a 0
-  extends_none {a} v = record { appended = appended_none (model a); undo = laws.nothing a v }
+module _ {S : Type 0} {model : S → Model} {rollback : S → ℕ → S} (laws : RollbackLaws model rollback) where
+  pub extends_none : {a : S} → Extends model rollback a a 0
+  extends_none {a} = record { appended = appended_none (model a); undo = laws.nothing a }
 
-  pub extends_same : {a b : S} → valid a → b ≡ a → Extends model rollback a b 0
-  extends_same {a} {b} v e = subst (λ (x : S). Extends model rollback a x 0) (sym e) (extends_none v)
+  pub extends_same : {a b : S} → b ≡ a → Extends model rollback a b 0
+  extends_same {a} {b} e = subst (λ (x : S). Extends model rollback a x 0) (sym e) extends_none
 
   pub extends_trans : {a b c : S} {p q : ℕ} → Extends model rollback a b p → Extends model rollback b c q → Extends model rollback a c (p + q)
   extends_trans {a} {b} {c} {p} {q} g h =
@@ -49,16 +49,16 @@ module _ {S : Type 0} {valid : S → Type 0} {model : S → Model} {rollback : S
       let e : kept (model s₁) to ≡ length (model s).held = omega (arith, m.len, m.same.floor, ok.floor, is) in
       c.value ∙ ap (rollback s₁) e ∙ g.undo
 
-  pub advanced_none : {a : S} → valid a → Advanced valid model rollback a a
-  advanced_none {a} v = record { fine = v; more = 0; grown = extends_none v }
+  pub advanced_none : {a : S} → Advanced model rollback a a
+  advanced_none {a} = record { more = 0; grown = extends_none }
 
-  pub advanced_trans : {a b c : S} → Advanced valid model rollback a b → Advanced valid model rollback b c → Advanced valid model rollback a c
-  advanced_trans p q = record { fine = q.fine; more = p.more + q.more; grown = extends_trans p.grown q.grown }
+  pub advanced_trans : {a b c : S} → Advanced model rollback a b → Advanced model rollback b c → Advanced model rollback a c
+  advanced_trans p q = record { more = p.more + q.more; grown = extends_trans p.grown q.grown }
 
   -- any operation, accepted or refused
-  pub advanced_op : {a b : S} (need : S → Op → ℕ) (op : Op) (r : Result ℕ StoreFault) → valid a → valid b → Outcome model rollback need a b op r → Advanced valid model rollback a b
-  advanced_op need op (Ok x) v v' h = record { fine = v'; more = _; grown = h.grown }
-  advanced_op need op (Err f) v v' h = record { fine = v'; more = 0; grown = extends_same v h.same }
+  pub advanced_op : {a b : S} (need : S → Op → ℕ) (op : Op) (r : Result ℕ StoreFault) → Outcome model rollback need a b op r → Advanced model rollback a b
+  advanced_op need op (Ok x) h = record { more = _; grown = h.grown }
+  advanced_op need op (Err f) h = record { more = 0; grown = extends_same h.same }
 
-  pub release_restores : {s s₁ s₂ : S} (to : ℕ) → Consistent (model s) → Advanced valid model rollback s s₁ → to ≡ length (model s).held → CutBack model rollback s₁ s₂ to → s₂ ≡ s
+  pub release_restores : {s s₁ s₂ : S} (to : ℕ) → Consistent (model s) → Advanced model rollback s s₁ → to ≡ length (model s).held → CutBack model rollback s₁ s₂ to → s₂ ≡ s
   release_restores to ok g is c = cut_restores to ok g.grown is c

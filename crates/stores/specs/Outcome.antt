@@ -1,5 +1,5 @@
 -- What each operation of a store answers or refuses. Assumes nothing.
--- S is the type of a store; its ghost members are `valid`, `model`, `need` and `rollback`.
+-- S is the type of a store; its ghost members are `model`, `need` and `rollback`.
 --   Op                      an operation with its arguments
 --   result m op             the set that an operation works out
 --   refusal m need op       the first refusal due, by rising number, to an operation that needs so many places
@@ -8,7 +8,7 @@
 --                           refused: that fault was the one due, and the whole value is as it was
 --   RollbackLaws            taking off in two steps is taking off at once; taking nothing off changes nothing
 --   CutBack s s' to         the value that a release to `to` leaves
---   Advanced s s'           still valid, and extended by some number of sets
+--   Advanced s s'           extended by some number of sets
 --   HoldsOutcome, FindOutcome   the two questions
 use Rattle.std.specs.Prelude.{◌≡◌, ℕ, ◌-◌, ◌^◌, ◌<◌, ◌≤◌, Bool, cond, ◌&&◌, length, Some, None, Ok, Err, Option, Result, nat_lt}
 use Rattle.stores.specs.Sets.{Set, ◌∩◌, ◌∪◌, ◌∖◌, on, LowestIf}
@@ -45,9 +45,9 @@ pub record Extends {S : Type 0} (model : S → Model) (rollback : S → ℕ → 
   pub appended : Appended (model s) (model s') more
   pub undo : rollback s' (length (model s).held) ≡ s
 
-pub record RollbackLaws {S : Type 0} (valid : S → Type 0) (model : S → Model) (rollback : S → ℕ → S) : Type 0 where
+pub record RollbackLaws {S : Type 0} (model : S → Model) (rollback : S → ℕ → S) : Type 0 where
   pub twice : (s : S) (j k : ℕ) → k ≤ j → rollback (rollback s j) k ≡ rollback s k
-  pub nothing : (s : S) → valid s → rollback s (length (model s).held) ≡ s
+  pub nothing : (s : S) → rollback s (length (model s).held) ≡ s
 
 pub record Accepted {S : Type 0} (model : S → Model) (rollback : S → ℕ → S) (s s' : S) (need : ℕ) (op : Op) (r : ℕ) : Type 0 where
   pub due : refusal (model s) need op ≡ None
@@ -67,8 +67,7 @@ pub record CutBack {S : Type 0} (model : S → Model) (rollback : S → ℕ → 
   pub cut : CutTo (model s) (model s') to
   pub value : s' ≡ rollback s (kept (model s) to)
 
-pub record Advanced {S : Type 0} (valid : S → Type 0) (model : S → Model) (rollback : S → ℕ → S) (s s' : S) : Type 0 where
-  pub fine : valid s'
+pub record Advanced {S : Type 0} (model : S → Model) (rollback : S → ℕ → S) (s s' : S) : Type 0 where
   pub more : ℕ
   pub grown : Extends model rollback s s' more
 

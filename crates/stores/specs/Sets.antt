@@ -1,12 +1,13 @@
 -- Sets of configurations, each a test of a configuration. Assumes nothing.
 --   empty            no configuration
+--   everything n     all configurations of n switches
 --   a ∩ b, a ∪ b     the intersection, the union
 --   a ∖ b            a without b
 --   on i             the configurations whose bit i is 1
 --   Lowest a k       k is the lowest configuration of a
 --   Empty a          no configuration is in a
 --   LowestIf a o     o is the lowest of a, or none where a is empty
-use Rattle.std.specs.Prelude.{◌≡◌, ℕ, ◌/◌, ◌%◌, ◌^◌, ◌<◌, Bool, true, false, not, ◌&&◌, ◌||◌, Some, None, Option, ◌==◌}
+use Rattle.std.specs.Prelude.{◌≡◌, ℕ, ◌/◌, ◌%◌, ◌^◌, ◌<◌, Bool, true, false, not, ◌&&◌, ◌||◌, Some, None, Option, ◌==◌, nat_lt}
 
 infixl 70 ◌∩◌
 infixl 65 ◌∪◌
@@ -16,6 +17,9 @@ Set = ℕ → Bool
 
 abbrev pub empty : Set
 empty = λ k. false
+
+abbrev pub everything : ℕ → Set
+everything n = λ k. nat_lt k (2 ^ n)
 
 abbrev pub ◌∩◌ : Set → Set → Set
 a ∩ b = λ k. a k && b k
