@@ -1,6 +1,7 @@
 // Making a store in words that are handed in.
 ghost use Rattle.std.specs.Prelude.{◌≤◌, length};
-ghost use Rattle.cells.specs.Words.{Wiped, Prepared};
+ghost use Rattle.stores.specs.Making.{Prepared};
+ghost use Rattle.cells.specs.Words.{Wiped, New, due};
 
 use super::layout::{
     ALL, CELL_WORDS, CELLS, COUNT_WORD, FLOOR, HIGH, LOW, N_WORD, NO_SWITCH, room,
@@ -22,7 +23,7 @@ pub(crate) fn wipe(words: &mut [u32])
 
 // Writes a new store of `n` switches into the words, or leaves them as they were.
 pub fn prepare(words: &mut [u32], n: u32) -> Result<(), StoreFault>
-    ensures { Prepared words.old words.new n result }
+    ensures { Prepared due New words.old n words.new result }
 {
     if n as usize > MAX_SWITCHES {
         return Err(StoreFault::TooManySwitches);
