@@ -11,9 +11,10 @@
 --   Completed p q r z  the same of all that is ahead
 --   Advanced p q       one token was read
 use Rattle.std.specs.Prelude.{◌≡◌, ℕ, suc, ◌≤◌, List, [], ◌∷◌, ◌++◌, length, Ok, Err, Result}
-use Rattle.text.specs.Tokens.{Bytes, Tok, nought, unit, defined, not, and, or, opened, closed, name, other, Placed, tokens_at}
+use Rattle.text.specs.Tokens.{Bytes, Tok, nought, unit, defined, not, and, or, opened, closed, name, other, Placed}
 use Rattle.expressions.specs.Grammar.{Expr, named, Out}
 use Rattle.expressions.specs.Conditions.{kinds, place_or, Item, items, postfix}
+use Rattle.expressions.specs.Operands.{tokens_in}
 use Rattle.expressions.specs.Faults.{refused, described}
 use Rattle.expressions.specs.declared.operand.Operand.{Operand}
 use Rattle.expressions.specs.declared.fault.ExpressionFault.{ExpressionFault}
@@ -46,7 +47,7 @@ abbrev pub written : Parser → List Item
 written p = items p.steps.items
 
 pub record Begun (o : Operand) (p : Parser) : Type 0 where
-  pub ahead : ahead p ≡ tokens_at o.comments o.line.now o.from
+  pub ahead : ahead p ≡ tokens_in o
   pub line : line_of p ≡ o.line.now
   pub number : p.number ≡ o.number
   pub written : written p ≡ []

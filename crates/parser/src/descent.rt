@@ -1,9 +1,10 @@
 // Reads the tokens of a line by recursive descent, and writes the steps of the condition that they make.
-ghost use Rattle.std.specs.Prelude.{◌≡◌, suc, ◌+◌, ◌-◌, ◌<◌, ◌≤◌, List, [], ◌∷◌, length, take, drop, MatchResult, Err};
+ghost use Rattle.std.specs.Prelude.{◌≡◌, suc, ◌+◌, ◌-◌, ◌<◌, ◌≤◌, List, [], ◌∷◌, length, take, drop, MatchResult};
 ghost use Rattle.text.specs.Pulling.{place, bytes, place_or};
-ghost use Rattle.expressions.specs.declared.fault.ExpressionFault.TheVariants.{LineTooLong, Token as TokenAt};
+ghost use Rattle.expressions.specs.declared.fault.ExpressionFault.TheVariants.{Token as TokenAt};
 ghost use Rattle.expressions.specs.Grammar.{Expr, closing, name_due, term as term_of, ands_of, expr as expr_of, parsed};
 ghost use Rattle.expressions.specs.Conditions.{item, kinds, postfix};
+ghost use Rattle.expressions.specs.Operands.{Short, RefusesLong};
 ghost use Rattle.parser.specs.Ahead.{from};
 
 use arrayvec::ArrayVec;
@@ -35,8 +36,8 @@ impl<'a> Parser<'a> {
 
     // At the operand's first token, unless its line is too long.
     pub fn new(operand: Operand<'a>) -> Result<Parser<'a>, ExpressionFault>
-        ensures long { 255 < length operand.entry.line.now → result ≡ Err (LineTooLong operand.entry.number) }
-        ensures begun { MatchResult result (λ p. (length operand.entry.line.now ≤ 255) × Begun operand.entry p) (λ f. 255 < length operand.entry.line.now) }
+        ensures long { RefusesLong operand.entry result }
+        ensures begun { MatchResult result (λ p. Short operand.entry × Begun operand.entry p) (λ f. 255 < length operand.entry.line.now) }
     {
         let mut tokens = operand.tokens()?;
         let token = tokens.next();
