@@ -1,5 +1,5 @@
 // Reading from a line: its tokens, and, where no condition may stand, one name, a name and whatever is behind it, or nothing.
-ghost use Rattle.std.specs.Prelude.{◌≡◌, ◌-◌, ◌<◌, ◌≤◌, length, take, drop, IfOk, MatchResult};
+ghost use Rattle.std.specs.Prelude.{◌≡◌, ◌-◌, ◌<◌, length, take, drop, IfOk, MatchResult};
 ghost use Rattle.text.specs.Pulling.{left};
 ghost use Rattle.expressions.specs.Conditions.{only_name, first_name, nothing_at};
 ghost use Rattle.expressions.specs.Operands.{tokens_in, Short, RefusesLong};

@@ -1,5 +1,5 @@
 // Reads the tokens of a line by recursive descent, and writes the steps of the condition that they make.
-ghost use Rattle.std.specs.Prelude.{◌≡◌, suc, ◌+◌, ◌-◌, ◌<◌, ◌≤◌, List, [], ◌∷◌, length, take, drop, MatchResult};
+ghost use Rattle.std.specs.Prelude.{◌≡◌, suc, ◌+◌, ◌-◌, ◌<◌, ◌≤◌, [], ◌∷◌, length, take, drop, MatchResult};
 ghost use Rattle.text.specs.Pulling.{place, bytes, place_or};
 ghost use Rattle.expressions.specs.declared.fault.ExpressionFault.TheVariants.{Token as TokenAt};
 ghost use Rattle.expressions.specs.Grammar.{Expr, closing, name_due, term as term_of, ands_of, expr as expr_of, parsed};
