@@ -22,57 +22,47 @@ use parser::condition;
 use scanning::open_after;
 use sources::fault::{LineFault, SourceFault};
 use sources::line::{Line, content};
+use sources::place::SourceLine;
 use text::Part;
 
-// Where a line stands in its source.
-#[derive(Clone, Copy)]
-pub struct Place {
-    pub number: usize,
-    pub in_comment: bool,
-    pub last: bool,
-}
-
 // The line's directive; it has none where it begins inside a block comment.
-fn directive_in(line: &[u8], in_comment: bool) -> Option<Found>
-    ensures { result ≡ cond in_comment None (found_in line.now) }
+fn directive_of(line: &SourceLine<'_>) -> Option<Found>
+    ensures { result ≡ cond line.now.in_comment None (found_in line.now.text.now) }
 {
-    if in_comment { None } else { find(line) }
+    if line.in_comment { None } else { find(line.text) }
 }
 
 fn is_conditional(found: Option<Found>) -> bool
     ensures { result ≡ conditional_at found }
 {
-    match found {
-        Some(found) => found.directive.is_conditional(),
-        None => false,
-    }
+    found.is_some_and(|found| found.directive.is_conditional())
 }
 
 // Does the line leave a block comment open where none may be?
-fn leaves_comment_open(line: &[u8], place: Place, conditional: bool) -> bool
-    ensures { result ≡ (open_after place.in_comment line.now && (place.last || (conditional || alone (front place.in_comment line.now)))) }
+fn leaves_comment_open(line: &SourceLine<'_>, conditional: bool) -> bool
+    ensures { result ≡ (open_after line.now.in_comment line.now.text.now && (line.now.last || (conditional || alone (front line.now.in_comment line.now.text.now)))) }
 {
-    open_after(place.in_comment, line)
-        && (place.last || conditional || is_lone_hash(line, place.in_comment))
+    open_after(line.in_comment, line.text)
+        && (line.last || conditional || is_lone_hash(line.text, line.in_comment))
 }
 
 // Does `#` stand first behind the comment that the line began in?
-fn hash_behind_comment(line: &[u8], in_comment: bool) -> bool
-    ensures { result ≡ (in_comment && hash (front in_comment line.now)) }
+fn hash_behind_comment(line: &SourceLine<'_>) -> bool
+    ensures { result ≡ (line.now.in_comment && hash (front line.now.in_comment line.now.text.now)) }
 {
-    in_comment && begins_with_hash(line, in_comment)
+    line.in_comment && begins_with_hash(line.text, line.in_comment)
 }
 
 // What is refused whatever stands behind a directive's name, by rising number.
-fn check_line(line: &[u8], place: Place, conditional: bool) -> Result<(), LineFault>
-    ensures { result ≡ checked_line place.last place.in_comment place.number conditional line.now }
+fn check_line(line: &SourceLine<'_>, conditional: bool) -> Result<(), LineFault>
+    ensures { result ≡ checked_line line.now.last line.now.in_comment line.now.number conditional line.now.text.now }
 {
-    if ends_in_backslash(line) {
-        Err(LineFault::Continued { line: place.number })
-    } else if leaves_comment_open(line, place, conditional) {
-        Err(LineFault::CommentOpen { line: place.number })
-    } else if hash_behind_comment(line, place.in_comment) {
-        Err(LineFault::HashBehindComment { line: place.number })
+    if ends_in_backslash(line.text) {
+        Err(LineFault::Continued { line: line.number })
+    } else if leaves_comment_open(line, conditional) {
+        Err(LineFault::CommentOpen { line: line.number })
+    } else if hash_behind_comment(line) {
+        Err(LineFault::HashBehindComment { line: line.number })
     } else {
         Ok(())
     }
@@ -142,14 +132,14 @@ fn directive_line<'a>(
     }
 }
 
-// What the line is. It comes with its line feed, if it has one.
-pub fn classify<'a>(line: &'a [u8], place: Place) -> Result<Line<'a>, SourceFault>
-    ensures { Classifies (classified place.last place.in_comment place.number line.now) result }
+// What the line is.
+pub fn classify<'a>(line: &SourceLine<'a>) -> Result<Line<'a>, SourceFault>
+    ensures { Classifies (classified line.now.last line.now.in_comment line.now.number line.now.text.now) result }
 {
-    let found = directive_in(line, place.in_comment);
-    check_line(line, place, is_conditional(found))?;
+    let found = directive_of(line);
+    check_line(line, is_conditional(found))?;
     match found {
-        Some(found) => Ok(directive_line(line, found, place.number)?),
+        Some(found) => Ok(directive_line(line.text, found, line.number)?),
         None => Ok(Line::Plain),
     }
 }
