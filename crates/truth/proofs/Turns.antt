@@ -7,16 +7,13 @@ use Rattle.expressions.specs.Conditions.{Item, item_at, items, postfix}
 use Rattle.expressions.specs.Truth.{Env, truth}
 use Rattle.expressions.specs.declared.condition.Step.{Step}
 use Rattle.expressions.specs.declared.condition.Step.TheVariants.{Never}
-use Rattle.truth.specs.Worked.{one, popped, first, machine, stacked}
+use Rattle.truth.specs.Worked.{one, popped, first, machine}
 use Rattle.truth.proofs.Machine.{machine_all}
 
 module _ (line : Bytes) (steps : List Step) (D : Env) where
   -- what the steps from the i-th on leave from here, all steps leave from the start
   abbrev pub GoesOn : ℕ → List Bool → Type 0
   GoesOn i st = machine (items line (drop i steps)) D st ≡ machine (items line steps) D []
-
-  pub goes_start : (vs : List Bool) (n : ℕ) → n ≡ 0 → GoesOn 0 (stacked vs n)
-  goes_start vs n e = ap (λ (j : ℕ). machine (items line steps) D (stacked vs j)) e
 
   pub goes_more : (i : ℕ) (v : Bool) (st st₁ st₂ : List Bool) → GoesOn i st → i < length steps
       → v ≡ one (item_at line (get_or steps i Never)) D st → st₁ ≡ popped (item_at line (get_or steps i Never)) st → st₂ ≡ v ∷ st₁ → GoesOn (i + 1) st₂
