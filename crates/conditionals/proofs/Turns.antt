@@ -13,6 +13,10 @@ pub texts_length : (rs : List (Bor Bytes)) → length (texts rs) ≡ length rs
 texts_length [] = refl
 texts_length (r ∷ rs) = ap suc (texts_length rs)
 
+pub texts_append : (a b : List (Bor Bytes)) → texts (a ++ b) ≡ texts a ++ texts b
+texts_append [] b = refl
+texts_append (r ∷ a) b = ap (λ (l : List Bytes). r.now ∷ l) (texts_append a b)
+
 -- the look-up found no entry
 pub not_known : (x : Bytes) (xs items : List (Bor Bytes)) (o : Option ℕ) → xs ≡ items → o ≡ index_of (texts xs) x → false ≡ is_some o → has x (texts items) ≡ false
 not_known x xs items o e q h = sym (h ∙ ap is_some q ∙ ap (λ (l : List (Bor Bytes)). has x (texts l)) e)

@@ -1,11 +1,10 @@
 use Rattle.std.proofs.Common.{◌≡◌, ◌<◌, ℕ, false, [], ◌∷◌, length, Ok, refl, sym, ap, ◌∙◌, rules, arith, eqb-true, List}
 use Rattle.std.proofs.lemmas.Bool.{eqb-false}
 use Rattle.names.specs.Names.{texts}
-use Rattle.names.proofs.Turns.{texts_append}
 use Rattle.sources.specs.Faults.{conditional_fault}
 use Rattle.conditionals.specs.Shape.{has}
 use Rattle.conditionals.specs.Answers.{shape_of}
-use Rattle.conditionals.proofs.Turns.{texts_length, not_known, enter_full, enter_stopped, enter_done}
+use Rattle.conditionals.proofs.Turns.{texts_length, texts_append, not_known, enter_full, enter_stopped, enter_done}
 use Rattle.conditionals.proofs.Shape.enter.Goals as goal
 use Rattle.conditionals.proofs.Shape.enter.Goals.{After-is_full}
 
