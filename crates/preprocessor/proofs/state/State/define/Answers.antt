@@ -1,4 +1,4 @@
-use Rattle.std.proofs.Common.{◌≡◌, ap, ap₂, ◌∙◌, sym, true, false, not, ◌&&◌, cond, Bool, List, [], ◌∷◌, ◌++◌, Ok, Err, Result, Bor}
+use Rattle.std.proofs.Common.{rules, ◌≡◌, ap, ap₂, ◌∙◌, sym, true, false, not, ◌&&◌, cond, Bool, List, [], ◌∷◌, ◌++◌, Ok, Err, Result, Bor}
 use Rattle.std.proofs.lemmas.Bool.{false≢true}
 use Rattle.std.specs.Result.{IsOk, OnOk}
 use Rattle.text.specs.Tokens.{Bytes}
@@ -18,7 +18,7 @@ returns-then-not-is_defined-clause-names c = λ few.
     let s = c.args.self.now in
     let x = c.args.name.now in
     let ds = texts s.defined.items in
-    let a : active (chains_of s) ≡ true = sym c.is_active.ensures ∙ c.if-is_active.true in
+    let a : active (chains_of s) ≡ true = search rules in
     let n : env_of ds x ≡ false = ap (λ (l : List (Bor Bytes)). env_of (texts l) x) (sym c.deref.ensures.0) ∙ sym c.if-not-is_defined.ensures in
     ap texts (on_ok _ c.try_push.result (c.try_push.ensures.variant.1 (few n)) c.try_push.ensures.ok) ∙ texts_append s.defined.items (c.args.name ∷ [])
     ∙ ap₂ (λ (b d : Bool). cond (b && not d) (ds ++ x ∷ []) ds) (sym a) (sym n)
