@@ -1,6 +1,6 @@
 -- A term as the parser reads it, by its first token, against the grammar.
 use Rattle.std.proofs.Common.{◌≡◌, ℕ, zero, suc, ◌-◌, ◌<◌, ◌⊎◌, List, [], ◌∷◌, ◌++◌, length, Some, None, Ok, Err, Result, sym, refl, ap, ◌∙◌, subst, inl, inr, arith, length-append}
-use Rattle.text.specs.Tokens.{Tok, nought, unit, defined, not, and, or, opened, closed, name, other, Placed}
+use Rattle.text.specs.Tokens.{Tok, nought, unit, defined, not, and, or, opened, closed, other, Placed}
 use Rattle.text.specs.Pulling.{placed, place, left}
 use Rattle.text.specs.declared.scanner.Part.{Part}
 use Rattle.text.specs.declared.scanner.Token.TheVariants.{And, Or, Close, Other, End}
@@ -36,14 +36,6 @@ term_open : (l : ℕ) (r : List Tok) → 0 < l → term l (opened ∷ r) ≡ aft
 term_open zero r h = absurd (omega arith)
 term_open (suc l) r h = let e : l ≡ suc l - 1 = omega arith in ap (λ (m : ℕ). after (expr m r) closing) e
 
-pub deep_not : (l : ℕ) → l ≡ 0 → (r : List Tok) → term l (not ∷ r) ≡ Err (16, not ∷ r)
-deep_not zero h r = refl
-deep_not (suc l) h r = absurd (omega arith)
-
-pub deep_open : (l : ℕ) → l ≡ 0 → (r : List Tok) → term l (opened ∷ r) ≡ Err (16, opened ∷ r)
-deep_open zero h r = refl
-deep_open (suc l) h r = absurd (omega arith)
-
 pub wrong_and : (l : ℕ) (r : List Tok) → term l (and ∷ r) ≡ Err (14, and ∷ r)
 wrong_and zero r = refl
 wrong_and (suc l) r = refl
@@ -55,10 +47,6 @@ wrong_or (suc l) r = refl
 pub wrong_close : (l : ℕ) (r : List Tok) → term l (closed ∷ r) ≡ Err (14, closed ∷ r)
 wrong_close zero r = refl
 wrong_close (suc l) r = refl
-
-pub wrong_name : (l : ℕ) (x : List ℕ) (r : List Tok) → term l (name x ∷ r) ≡ Err (15, name x ∷ r)
-wrong_name zero x r = refl
-wrong_name (suc l) x r = refl
 
 pub wrong_other : (l : ℕ) (r : List Tok) → term l (other ∷ r) ≡ Err (14, other ∷ r)
 wrong_other zero r = refl

@@ -1,21 +1,18 @@
 -- Parts joined by one token, as the parser reads them, against the grammar.
 --   Looped op join t p q   from p, behind the first part, to q further parts were read, and their steps written
-use Rattle.std.proofs.Common.{◌≡◌, ℕ, zero, suc, ◌<◌, ◌≤◌, Bool, true, false, cond, List, [], ◌∷◌, ◌++◌, length, Ok, Err, Result, sym, refl, ap, ◌∙◌, subst, append_assoc, arith, length-append}
+use Rattle.std.proofs.Common.{append-nil, ◌≡◌, ℕ, zero, suc, ◌<◌, ◌≤◌, Bool, true, false, cond, List, [], ◌∷◌, ◌++◌, length, Ok, Err, Result, sym, refl, ap, ◌∙◌, subst, append_assoc, arith, length-append}
 use Rattle.text.specs.Tokens.{Tok, Placed}
 use Rattle.expressions.specs.Grammar.{Expr, Out, after, more, chain}
 use Rattle.expressions.specs.Conditions.{kinds, Item, postfix}
-use Rattle.parser.specs.Parsing.{next_is, ahead, written, Ready, Run, Advanced, Outcome}
+use Rattle.parser.specs.Parsing.{ahead, written, Ready, Run, Advanced, Outcome}
 use Rattle.expressions.specs.declared.fault.ExpressionFault.{ExpressionFault}
 use Rattle.parser.specs.declared.descent.Parser.{Parser}
+use Rattle.parser.proofs.Moves.{next_is}
 use Rattle.parser.proofs.Parts.{then, later, was_read, was_refused, reads, refuses, advanced_kinds}
 
 pub length_kinds : (ps : List Placed) → length (kinds ps) ≡ length ps
 length_kinds [] = refl
 length_kinds (p ∷ ps) = ap suc (length_kinds ps)
-
-none : (is : List Item) → is ++ [] ≡ is
-none [] = refl
-none (i ∷ is) = ap (λ (z : List Item). i ∷ z) (none is)
 
 pub record Looped (op : Tok → Bool) (join : Expr → Expr → Expr) (t : List Tok → Out) (p q : Parser) : Type 0 where
   pub past : List Placed
@@ -31,10 +28,10 @@ module _ (op : Tok → Bool) (join : Expr → Expr → Expr) (t : List Tok → O
   begun p q u z o = record {
     past = [];
     steps = [];
-    run = record { line = refl; number = refl; ahead = refl; written = sym (none (written q)); len = omega arith };
+    run = record { line = refl; number = refl; ahead = refl; written = sym (append-nil (written q)) };
     few = omega arith;
     ready = (was_read postfix p q z u o).3.ready;
-    joined = λ e. (length (kinds (ahead q)), e, omega arith, sym (none (postfix e)), refl);
+    joined = λ e. (length (kinds (ahead q)), e, omega arith, sym (append-nil (postfix e)), refl);
   }
 
   -- one more part
@@ -123,9 +120,3 @@ module _ (op : Tok → Bool) (join : Expr → Expr → Expr) (t : List Tok → O
         (from_first w.0 w.1 w.2 w.3.rest ∙ j.4
         ∙ fails j.0 j.1 (kinds (ahead s)) (kinds (ahead s₁)) a.0.0 (v.0, v.1) j.2 (advanced_kinds s s₁ a.0 a.1) n v.2)
         (later (then w.3.run (then l.run a.1)) v.3)
-
-  pub unbegun : (p q : Parser) (y : Result (Unit {0}) ExpressionFault) (f : ExpressionFault) → y ≡ Err f → Outcome postfix p q (Err f) (t (kinds (ahead p)))
-      → Outcome postfix p q y (chain op join t (kinds (ahead p)))
-  unbegun p q y f h o =
-      let v = was_refused postfix p q (t (kinds (ahead p))) f o in
-      refuses postfix p q (chain op join t (kinds (ahead p))) y f v.0 v.1 h (ap (λ (z : Out). after z (λ e r. more op join t (length r) e r)) v.2) v.3

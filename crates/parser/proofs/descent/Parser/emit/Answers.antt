@@ -3,6 +3,6 @@ use Rattle.parser.proofs.descent.Parser.emit.Goals as goal
 
 pub returns : goal.returns
 returns c = record {
-  run = emitted_run c.args.self.now c.args.step c.requires.ready c.requires.room;
-  ready = emitted_ready c.args.self.now c.args.step c.requires.ready c.requires.room;
+  run = emitted_run c.args.self.now c.args.step c.push.new.self c.requires.ready c.requires.room c.push.ensures.items;
+  ready = emitted_ready c.args.self.now c.args.step c.push.new.self c.requires.ready c.requires.room c.push.ensures.items;
 }
