@@ -105,7 +105,7 @@ impl From<SourceFault> for Refusal {
     fn from(f: SourceFault) -> Refusal {
         match f {
             SourceFault::Lines(fault) => fault.into(),
-            SourceFault::Expression(fault) => fault.refusal(),
+            SourceFault::Expression(fault) => fault.into(),
             SourceFault::Conditionals(fault) => fault.into(),
         }
     }

@@ -2,17 +2,17 @@
 // Promises: the value of the expression whose steps the condition has.
 #![tactic(auto)]
 
-ghost use Rattle.std.specs.Prelude.{◌≡◌, ◌≤◌, [], reverse, length};
+ghost use Rattle.std.specs.Prelude.{◌≡◌, ◌≤◌, reverse};
 ghost use Rattle.arrayvec.specs.ArrayVec.{array_vec_len};
 ghost use Rattle.names.specs.Names.{texts};
 ghost use Rattle.expressions.specs.Grammar.{Expr};
-ghost use Rattle.expressions.specs.Conditions.{item_at, items, postfix};
+ghost use Rattle.expressions.specs.Conditions.{item, postfix};
 ghost use Rattle.expressions.specs.Truth.{truth as value_of_lem};
 ghost use Rattle.sources.specs.Answers.{steps_of};
-ghost use Rattle.truth.specs.Worked.{env_of, one, popped as without, first, rest, machine};
+ghost use Rattle.truth.specs.Worked.{env_of, one, popped as without, first, rest};
 
 use arrayvec::ArrayVec;
-use expressions::condition::{Condition, MAX_LINE, Step, name_at};
+use expressions::condition::{Condition, MAX_LINE, Step};
 use names::index_of;
 
 // The values that the steps worked out so far have left, the newest last. A condition has at most so many steps, and each leaves one value.
@@ -35,15 +35,15 @@ fn pop(stack: &mut Stack) -> bool
 }
 
 // The value that one step leaves. Its operands come off the stack.
-fn value(line: &[u8], step: Step, defined: &[&[u8]], stack: &mut Stack) -> bool
-    ensures value { result ≡ one (item_at line.now step) (env_of (texts defined.now)) (reverse stack.old.items) }
-    ensures popped { reverse stack.new.items ≡ without (item_at line.now step) (reverse stack.old.items) }
+fn value(step: Step<'_>, defined: &[&[u8]], stack: &mut Stack) -> bool
+    ensures value { result ≡ one (item step.entry) (env_of (texts defined.now)) (reverse stack.old.items) }
+    ensures popped { reverse stack.new.items ≡ without (item step.entry) (reverse stack.old.items) }
     ensures len { array_vec_len stack.new ≤ array_vec_len stack.old }
 {
     match step {
         Step::Never => false,
         Step::Always => true,
-        Step::Defined { at, len } => is_defined(name_at(line, at, len), defined),
+        Step::Defined(name) => is_defined(name, defined),
         Step::Not => !pop(stack),
         Step::And => {
             let b = pop(stack);
@@ -58,22 +58,14 @@ fn value(line: &[u8], step: Step, defined: &[&[u8]], stack: &mut Stack) -> bool
     }
 }
 
-// Works the steps out in their order. The answer is the value that the last one left.
-fn work_steps(line: &[u8], steps: &[Step], defined: &[&[u8]]) -> bool
-    requires { length steps.now ≤ 255 }
-    ensures { result ≡ machine (items line.now steps.now) (env_of (texts defined.now)) [] }
-{
-    let mut stack = Stack::new();
-    for step in steps {
-        let value = value(line, *step, defined, &mut stack);
-        stack.push(value);
-    }
-    pop(&mut stack)
-}
-
-// Does the condition hold, where just these names are defined?
+// Does the condition hold, where just these names are defined? The value that its last step left tells.
 pub fn holds(condition: &Condition<'_>, defined: &[&[u8]]) -> bool
     ensures { (e : Expr) → steps_of condition.now ≡ postfix e → result ≡ value_of_lem e (env_of (texts defined.now)) }
 {
-    work_steps(condition.line(), condition.steps(), defined)
+    let mut stack = Stack::new();
+    for step in condition.steps() {
+        let value = value(*step, defined, &mut stack);
+        stack.push(value);
+    }
+    pop(&mut stack)
 }

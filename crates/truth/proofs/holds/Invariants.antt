@@ -2,9 +2,7 @@ use Rattle.std.proofs.Common.{◌≤◌, reverse, length}
 use Rattle.names.specs.Names.{texts}
 use Rattle.truth.specs.Worked.{env_of}
 use Rattle.truth.proofs.Turns.{GoesOn}
-use Rattle.truth.proofs.work_steps.Given as goal
+use Rattle.truth.proofs.holds.Given as goal
 
 abbrev pub invariant-loop-step : goal.invariant-loop-step
-invariant-loop-step l =
-    (length l.stack.items ≤ l.step-index)
-    × GoesOn l.line l.steps (env_of (texts l.defined)) l.step-index (reverse l.stack.items)
+invariant-loop-step l = (length l.stack.items ≤ l.step-index) × GoesOn l.step-items (env_of (texts l.defined)) l.step-index (reverse l.stack.items)
