@@ -1,9 +1,13 @@
 // Random lists of operations on small diagram stores, against truth tables that are worked out by trying every configuration.
-use diagrams::make;
+use diagrams::Diagrams;
+use dice::Dice;
 use std::alloc::Global;
+use std::array;
 use std::process::Abort;
 use std::test::Fail;
+use stores::connective::Connective;
 use stores::fault::StoreFault;
+use stores::in_words::InWords;
 use stores::{Mark, Store};
 
 const MOST_SWITCHES: u32 = 10;
@@ -30,10 +34,15 @@ fn add(table: &mut Table, k: u32) {
     table[(k as usize / 64) % TABLE_WORDS] |= 1 << (k % 64);
 }
 
-fn everything(n: u32) -> Table {
+// The configurations of n switches that pass a test.
+fn those<F: Fn(u32) -> bool>(n: u32, test: F) -> Table
+    requires { F.IsAlwaysCallable test }
+{
     let mut table = [0; TABLE_WORDS];
     for k in 0..configurations(n) {
-        add(&mut table, k);
+        if test(k) {
+            add(&mut table, k);
+        }
     }
     table
 }
@@ -41,42 +50,19 @@ fn everything(n: u32) -> Table {
 // The set whose test of a configuration is the table's with switch `i` put on or off.
 fn fixed(table: &Table, n: u32, i: u32, on: bool) -> Table {
     let switch = 1u32 << i.min(31);
-    let mut side = [0; TABLE_WORDS];
-    for k in 0..configurations(n) {
-        let asked = if on { k | switch } else { k & !switch };
-        if has(table, asked) {
-            add(&mut side, k);
-        }
-    }
-    side
+    those(n, |k| has(table, if on { k | switch } else { k & !switch }))
 }
 
 fn with_switch(n: u32, i: u32) -> Table {
-    let mut table = [0; TABLE_WORDS];
-    for k in 0..configurations(n) {
-        if (k >> i.min(31)) & 1 == 1 {
-            add(&mut table, k);
-        }
-    }
-    table
+    those(n, |k| (k >> i.min(31)) & 1 == 1)
 }
 
 fn lowest(table: &Table) -> Option<u32> {
-    for k in 0..configurations(MOST_SWITCHES) {
-        if has(table, k) {
-            return Some(k);
-        }
-    }
-    None
+    (0..configurations(MOST_SWITCHES)).find(|k| has(table, *k))
 }
 
 fn place_of(tables: &[Table], table: &Table) -> Option<usize> {
-    for (place, other) in tables.iter().enumerate() {
-        if other == table {
-            return Some(place);
-        }
-    }
-    None
+    tables.iter().position(|other| other == table)
 }
 
 // Adds a table that is not there yet.
@@ -120,13 +106,6 @@ fn lacking(heap: Global, n: u32, held: &[Table], set: Table) -> Result<Vec<Table
 }
 
 #[derive(Clone, Copy)]
-enum Connective {
-    Both,
-    Either,
-    Less,
-}
-
-#[derive(Clone, Copy)]
 enum Act {
     Switch(u32),
     Join(Connective, u32, u32),
@@ -139,15 +118,11 @@ enum Act {
 }
 
 fn joined(connective: Connective, a: &Table, b: &Table) -> Table {
-    let mut table = [0; TABLE_WORDS];
-    for i in 0..TABLE_WORDS {
-        table[i] = match connective {
-            Connective::Both => a[i] & b[i],
-            Connective::Either => a[i] | b[i],
-            Connective::Less => a[i] & !b[i],
-        };
-    }
-    table
+    array::from_fn(|i| match connective {
+        Connective::Both => a[i] & b[i],
+        Connective::Either => a[i] | b[i],
+        Connective::Less => a[i] & !b[i],
+    })
 }
 
 // The open marks: the newer one is open only if the older one is.
@@ -156,29 +131,19 @@ struct Marks {
     newer: Option<Mark>,
 }
 
-fn release<S: Store>(store: &mut S, mark: Option<Mark>)
-    requires { S.valid store.old }
-    ensures { S.valid store.new }
-{
-    match mark {
-        Some(mark) => store.release(mark),
-        None => {}
+fn release<S: Store>(store: &mut S, mark: Option<Mark>) {
+    if let Some(mark) = mark {
+        store.release(mark);
     }
 }
 
-fn keep<S: Store>(store: &mut S, mark: Option<Mark>)
-    requires { S.valid store.old }
-    ensures { S.valid store.new }
-{
-    match mark {
-        Some(mark) => store.keep(mark),
-        None => {}
+fn keep<S: Store>(store: &mut S, mark: Option<Mark>) {
+    if let Some(mark) = mark {
+        store.keep(mark);
     }
 }
 
-fn open<S: Store>(store: &S, marks: Marks) -> Marks
-    requires { S.valid store.now }
-{
+fn open<S: Store>(store: &S, marks: Marks) -> Marks {
     let Marks { older, newer } = marks;
     match (older, newer) {
         (None, newer) => Marks {
@@ -208,10 +173,7 @@ fn newest(marks: Marks) -> (Option<Mark>, Marks) {
     }
 }
 
-fn change_marks<S: Store>(store: &mut S, marks: Marks, act: Act) -> Marks
-    requires { S.valid store.old }
-    ensures { S.valid store.new }
-{
+fn change_marks<S: Store>(store: &mut S, marks: Marks, act: Act) -> Marks {
     match act {
         Act::Mark => open(store, marks),
         Act::Release => {
@@ -238,24 +200,16 @@ fn change_marks<S: Store>(store: &mut S, marks: Marks, act: Act) -> Marks
 }
 
 // What the store answers to an operation; 0 to a change of marks.
-fn ask<S: Store>(store: &mut S, act: Act) -> Result<u32, StoreFault>
-    requires { S.valid store.old }
-    ensures { S.valid store.new }
-{
+fn ask<S: Store>(store: &mut S, act: Act) -> Result<u32, StoreFault> {
     match act {
         Act::Switch(i) => store.switch(i),
-        Act::Join(Connective::Both, a, b) => store.both(a, b),
-        Act::Join(Connective::Either, a, b) => store.either(a, b),
-        Act::Join(Connective::Less, a, b) => store.less(a, b),
+        Act::Join(connective, a, b) => store.join(connective, a, b),
         _ => Ok(0),
     }
 }
 
 // The answer to the last act, after all before it.
-fn replay<S: Store>(store: &mut S, acts: &[Act]) -> Result<u32, StoreFault>
-    requires { S.valid store.old }
-    ensures { S.valid store.new }
-{
+fn replay<S: Store>(store: &mut S, acts: &[Act]) -> Result<u32, StoreFault> {
     let mut answer = Ok(0);
     let mut marks = Marks {
         older: None,
@@ -271,57 +225,40 @@ fn replay<S: Store>(store: &mut S, acts: &[Act]) -> Result<u32, StoreFault>
     answer
 }
 
-// Xorshift of 32 bits.
-#[derive(Drop)]
-struct Dice {
-    state: u32,
+// A number that is held, most often a late one; now and then one that is not held.
+fn number(dice: &mut Dice, held: u32) -> u32 {
+    match dice.roll(16) {
+        0 => held.saturating_add(dice.roll(3)),
+        1..=4 => dice.roll(held),
+        _ => held
+            .saturating_sub(1)
+            .saturating_sub(dice.roll(held.min(12))),
+    }
 }
 
-impl Dice {
-    fn roll(&mut self, sides: u32) -> u32 {
-        let mut x = self.state;
-        x ^= x << 13;
-        x ^= x >> 17;
-        x ^= x << 5;
-        self.state = x;
-        x.checked_rem(sides).unwrap_or(0)
-    }
+// Room for few cells or for some dozens.
+fn room(dice: &mut Dice) -> u32 {
+    dice.roll(20)
+        .saturating_add(dice.roll(60))
+        .saturating_add(2)
+}
 
-    // A number that is held, most often a late one; now and then one that is not held.
-    fn number(&mut self, held: u32) -> u32 {
-        match self.roll(16) {
-            0 => held.saturating_add(self.roll(3)),
-            1..=4 => self.roll(held),
-            _ => held
-                .saturating_sub(1)
-                .saturating_sub(self.roll(held.min(12))),
-        }
+fn connective(dice: &mut Dice) -> Connective {
+    match dice.roll(3) {
+        0 => Connective::Both,
+        1 => Connective::Either,
+        _ => Connective::Less,
     }
+}
 
-    // Room for few cells or for some dozens.
-    fn capacity(&mut self) -> u32 {
-        self.roll(20)
-            .saturating_add(self.roll(60))
-            .saturating_add(2)
-    }
-
-    fn connective(&mut self) -> Connective {
-        match self.roll(3) {
-            0 => Connective::Both,
-            1 => Connective::Either,
-            _ => Connective::Less,
-        }
-    }
-
-    fn act(&mut self, n: u32, held: u32) -> Act {
-        match self.roll(20) {
-            0..=3 => Act::Switch(self.roll(n.saturating_add(1))),
-            4 => Act::Mark,
-            5 => Act::Release,
-            6 => Act::ReleaseBoth,
-            7 => Act::Keep,
-            _ => Act::Join(self.connective(), self.number(held), self.number(held)),
-        }
+fn any_act(dice: &mut Dice, n: u32, held: u32) -> Act {
+    match dice.roll(20) {
+        0..=3 => Act::Switch(dice.roll(n.saturating_add(1))),
+        4 => Act::Mark,
+        5 => Act::Release,
+        6 => Act::ReleaseBoth,
+        7 => Act::Keep,
+        _ => Act::Join(connective(dice), number(dice, held), number(dice, held)),
     }
 }
 
@@ -363,7 +300,7 @@ fn new_model(heap: Global, n: u32, capacity: usize) -> Result<Model, Fail> {
     Ok(Model {
         n,
         capacity,
-        tables: vec![in heap; [0; TABLE_WORDS], everything(n)]?,
+        tables: vec![in heap; [0; TABLE_WORDS], those(n, |_| true)]?,
         kept: Vec::new(heap),
         older: None,
         newer: None,
@@ -429,7 +366,7 @@ impl Model {
                 (self.older, self.newer) = (None, None);
             }
             _ => {
-                let newest = if newer.is_some() { newer } else { older };
+                let newest = newer.or(older);
                 if newer.is_none() {
                     self.older = None;
                 }
@@ -443,9 +380,7 @@ impl Model {
 }
 
 // The set that a store holds under a number, asked configuration by configuration.
-fn table_in<S: Store>(store: &S, number: u32) -> Result<Table, StoreFault>
-    requires { S.valid store.now }
-{
+fn table_in<S: Store>(store: &S, number: u32) -> Result<Table, StoreFault> {
     let mut table = [0; TABLE_WORDS];
     for k in 0..configurations(store.switches()) {
         if store.holds(number, k)? {
@@ -461,9 +396,7 @@ fn check_new<S: Store>(
     store: &S,
     model: &mut Model,
     missing: &[Table],
-) -> Result<(), Fail>
-    requires { S.valid store.now }
-{
+) -> Result<(), Fail> {
     let from = model.held();
     assert_eq!(rt;
         store.len() as usize,
@@ -484,9 +417,7 @@ fn check_questions<S: Store>(
     store: &S,
     model: &Model,
     dice: &mut Dice,
-) -> Result<(), Fail>
-    requires { S.valid store.now }
-{
+) -> Result<(), Fail> {
     let held = model.held();
     assert_eq!(rt; store.len(), held);
     for _ in 0..3 {
@@ -517,9 +448,7 @@ fn check_answer<S: Store>(
     act: Act,
     answer: Result<u32, StoreFault>,
     tally: &mut Tally,
-) -> Result<(), Fail>
-    requires { S.valid store.now }
-{
+) -> Result<(), Fail> {
     let table = match model.result(act) {
         Ok(table) => table,
         Err(fault) => {
@@ -560,9 +489,7 @@ fn check_act<S: Store>(
     act: Act,
     answer: Result<u32, StoreFault>,
     tally: &mut Tally,
-) -> Result<(), Fail>
-    requires { S.valid store.now }
-{
+) -> Result<(), Fail> {
     match act {
         Act::Switch(_) | Act::Join(_, _, _) => check_answer(
             rt, heap, store, model, act, answer, tally,
@@ -577,7 +504,7 @@ fn check_act<S: Store>(
 // The words that the acts leave.
 fn words_after(heap: Global, n: u32, words: usize, acts: &[Act]) -> Result<Vec<u32>, Fail> {
     let mut words = vec![in heap; 9u32; words]?;
-    let mut store = make(words.as_mut_slice(), n)?;
+    let mut store = Diagrams::make(words.as_mut_slice(), n)?;
     let _ = replay(&mut store, acts);
     drop(store);
     Ok(words)
@@ -595,7 +522,7 @@ fn check_last(
     tally: &mut Tally,
 ) -> Result<Vec<u32>, Fail> {
     let mut words = vec![in heap; 9u32; words]?;
-    let mut store = make(words.as_mut_slice(), model.n)?;
+    let mut store = Diagrams::make(words.as_mut_slice(), model.n)?;
     let answer = replay(&mut store, acts);
     check_act(rt, heap, &store, model, last, answer, tally)?;
     check_questions(rt, &store, model, dice)?;
@@ -616,7 +543,7 @@ fn check_list(
     let mut model = new_model(heap, n, capacity as usize)?;
     let mut acts = Vec::new(heap);
     for _ in 0..ACTS {
-        let act = dice.act(n, model.held());
+        let act = any_act(dice, n, model.held());
         acts.push(act)?;
         let after = check_last(
             rt,
@@ -660,7 +587,7 @@ fn agrees_with_truth_tables(rt: HostRuntime) -> Result<(), Fail> {
     };
     for n in 0..=MOST_SWITCHES {
         for _ in 0..LISTS {
-            let capacity = dice.capacity();
+            let capacity = room(&mut dice);
             check_list(&rt, rt.alloc(), n, capacity, &mut dice, &mut tally)?;
         }
     }
