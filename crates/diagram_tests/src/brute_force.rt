@@ -316,6 +316,20 @@ impl Model {
         self.tables.get(number as usize).copied()
     }
 
+    // Words for a store of such capacity.
+    fn words(&self, heap: Global) -> Result<Vec<u32>, Fail> {
+        Ok(vec![in heap; 9u32; 1_090 + 4 * self.capacity.min(1_000) + 3]?)
+    }
+
+    // The words that the kept operations leave.
+    fn words_alone(&self, heap: Global) -> Result<Vec<u32>, Fail> {
+        let mut words = self.words(heap)?;
+        let mut store = Diagrams::make(words.as_mut_slice(), self.n)?;
+        let _ = replay(&mut store, self.kept.as_slice());
+        drop(store);
+        Ok(words)
+    }
+
     // The set that an operation should answer, or the refusal due to its arguments.
     fn result(&self, act: Act) -> Result<Table, StoreFault> {
         match act {
@@ -390,176 +404,141 @@ fn table_in<S: Store>(store: &S, number: u32) -> Result<Table, StoreFault> {
     Ok(table)
 }
 
-// The sets of the numbers from `from` on are exactly the missing ones. They are then held in the model too.
-fn check_new<S: Store>(
-    rt: &impl Abort,
-    store: &S,
-    model: &mut Model,
-    missing: &[Table],
-) -> Result<(), Fail> {
-    let from = model.held();
-    assert_eq!(rt;
-        store.len() as usize,
-        (from as usize).saturating_add(missing.len())
-    );
-    for number in from..store.len() {
-        let table = table_in(store, number)?;
-        assert!(rt; place_of(missing, &table).is_some());
-        assert!(rt; place_of(model.tables.as_slice(), &table).is_none());
-        model.tables.push(table)?;
-    }
-    Ok(())
-}
-
-// Some numbers, old and new, hold what they should; questions about what is not there are refused.
-fn check_questions<S: Store>(
-    rt: &impl Abort,
-    store: &S,
-    model: &Model,
-    dice: &mut Dice,
-) -> Result<(), Fail> {
-    let held = model.held();
-    assert_eq!(rt; store.len(), held);
-    for _ in 0..3 {
-        let number = dice.roll(held);
-        let table = table_in(store, number)?;
-        assert!(rt; model.table(number) == Some(table));
-        assert_eq!(rt; store.find(number)?, lowest(&table));
-    }
-    let beyond = held.saturating_add(dice.roll(3));
-    assert_eq!(rt; store.find(beyond), Err(StoreFault::NoNumber));
-    assert_eq!(rt;
-        store.holds(beyond, configurations(model.n)),
-        Err(StoreFault::NoNumber)
-    );
-    assert_eq!(rt;
-        store.holds(dice.roll(held), configurations(model.n)),
-        Err(StoreFault::NoConfiguration)
-    );
-    Ok(())
-}
-
-// Checks an operation's answer, which is accepted exactly if the missing cells find room.
-fn check_answer<S: Store>(
-    rt: &impl Abort,
+// A run of the lists: what it draws from, and what it has met.
+#[derive(Drop)]
+struct Run<'a, R: Abort> {
+    rt: &'a R,
     heap: Global,
-    store: &S,
-    model: &mut Model,
-    act: Act,
-    answer: Result<u32, StoreFault>,
-    tally: &mut Tally,
-) -> Result<(), Fail> {
-    let table = match model.result(act) {
-        Ok(table) => table,
-        Err(fault) => {
-            if fault == StoreFault::NoSwitch {
-                count(&mut tally.no_switch);
-            } else {
-                count(&mut tally.no_number);
+    dice: Dice,
+    tally: Tally,
+}
+
+impl<R: Abort> Run<'_, R> {
+    // The sets of the numbers from `from` on are exactly the missing ones. They are then held in the model too.
+    fn check_new<S: Store>(
+        &self,
+        store: &S,
+        model: &mut Model,
+        missing: &[Table],
+    ) -> Result<(), Fail> {
+        let from = model.held();
+        assert_eq!(self.rt;
+            store.len() as usize,
+            (from as usize).saturating_add(missing.len())
+        );
+        for number in from..store.len() {
+            let table = table_in(store, number)?;
+            assert!(self.rt; place_of(missing, &table).is_some());
+            assert!(self.rt; place_of(model.tables.as_slice(), &table).is_none());
+            model.tables.push(table)?;
+        }
+        Ok(())
+    }
+
+    // Some numbers, old and new, hold what they should; questions about what is not there are refused.
+    fn check_questions<S: Store>(&mut self, store: &S, model: &Model) -> Result<(), Fail> {
+        let held = model.held();
+        assert_eq!(self.rt; store.len(), held);
+        for _ in 0..3 {
+            let number = self.dice.roll(held);
+            let table = table_in(store, number)?;
+            assert!(self.rt; model.table(number) == Some(table));
+            assert_eq!(self.rt; store.find(number)?, lowest(&table));
+        }
+        let beyond = held.saturating_add(self.dice.roll(3));
+        assert_eq!(self.rt; store.find(beyond), Err(StoreFault::NoNumber));
+        assert_eq!(self.rt;
+            store.holds(beyond, configurations(model.n)),
+            Err(StoreFault::NoNumber)
+        );
+        assert_eq!(self.rt;
+            store.holds(self.dice.roll(held), configurations(model.n)),
+            Err(StoreFault::NoConfiguration)
+        );
+        Ok(())
+    }
+
+    // Checks an operation's answer, which is accepted exactly if the missing cells find room.
+    fn check_answer<S: Store>(
+        &mut self,
+        store: &S,
+        model: &mut Model,
+        act: Act,
+        answer: Result<u32, StoreFault>,
+    ) -> Result<(), Fail> {
+        let table = match model.result(act) {
+            Ok(table) => table,
+            Err(fault) => {
+                if fault == StoreFault::NoSwitch {
+                    count(&mut self.tally.no_switch);
+                } else {
+                    count(&mut self.tally.no_number);
+                }
+                assert_eq!(self.rt; answer, Err(fault));
+                return Ok(());
             }
-            assert_eq!(rt; answer, Err(fault));
+        };
+        let missing = lacking(self.heap, model.n, model.tables.as_slice(), table)?;
+        if missing.len() > model.capacity.saturating_sub(model.tables.len()) {
+            count(&mut self.tally.full);
+            assert_eq!(self.rt; answer, Err(StoreFault::Full));
             return Ok(());
         }
-    };
-    let missing = lacking(heap, model.n, model.tables.as_slice(), table)?;
-    if missing.len() > model.capacity.saturating_sub(model.tables.len()) {
-        count(&mut tally.full);
-        assert_eq!(rt; answer, Err(StoreFault::Full));
-        return Ok(());
+        if missing.is_empty() {
+            count(&mut self.tally.found);
+        } else {
+            count(&mut self.tally.grown);
+        }
+        self.check_new(store, model, missing.as_slice())?;
+        model.kept.push(act)?;
+        assert_eq!(self.rt;
+            place_of(model.tables.as_slice(), &table),
+            Some(answer? as usize)
+        );
+        Ok(())
     }
-    if missing.is_empty() {
-        count(&mut tally.found);
-    } else {
-        count(&mut tally.grown);
-    }
-    check_new(rt, store, model, missing.as_slice())?;
-    model.kept.push(act)?;
-    assert_eq!(rt;
-        place_of(model.tables.as_slice(), &table),
-        Some(answer? as usize)
-    );
-    Ok(())
-}
 
-fn check_act<S: Store>(
-    rt: &impl Abort,
-    heap: Global,
-    store: &S,
-    model: &mut Model,
-    act: Act,
-    answer: Result<u32, StoreFault>,
-    tally: &mut Tally,
-) -> Result<(), Fail> {
-    match act {
-        Act::Switch(_) | Act::Join(_, _, _) => check_answer(
-            rt, heap, store, model, act, answer, tally,
-        ),
-        _ => {
-            model.change_marks(act, tally);
-            Ok(())
+    fn check_act<S: Store>(
+        &mut self,
+        store: &S,
+        model: &mut Model,
+        act: Act,
+        answer: Result<u32, StoreFault>,
+    ) -> Result<(), Fail> {
+        match act {
+            Act::Switch(_) | Act::Join(..) => self.check_answer(store, model, act, answer),
+            _ => {
+                model.change_marks(act, &mut self.tally);
+                Ok(())
+            }
         }
     }
-}
 
-// The words that the acts leave.
-fn words_after(heap: Global, n: u32, words: usize, acts: &[Act]) -> Result<Vec<u32>, Fail> {
-    let mut words = vec![in heap; 9u32; words]?;
-    let mut store = Diagrams::make(words.as_mut_slice(), n)?;
-    let _ = replay(&mut store, acts);
-    drop(store);
-    Ok(words)
-}
-
-// Does the acts on a new store and checks what the last one leads to. The answer is the words that they leave.
-fn check_last(
-    rt: &impl Abort,
-    heap: Global,
-    words: usize,
-    model: &mut Model,
-    acts: &[Act],
-    last: Act,
-    dice: &mut Dice,
-    tally: &mut Tally,
-) -> Result<Vec<u32>, Fail> {
-    let mut words = vec![in heap; 9u32; words]?;
-    let mut store = Diagrams::make(words.as_mut_slice(), model.n)?;
-    let answer = replay(&mut store, acts);
-    check_act(rt, heap, &store, model, last, answer, tally)?;
-    check_questions(rt, &store, model, dice)?;
-    drop(store);
-    Ok(words)
-}
-
-// One list of acts. After each of them every word is as after the kept operations alone, so a refusal and a release leave no trace.
-fn check_list(
-    rt: &impl Abort,
-    heap: Global,
-    n: u32,
-    capacity: u32,
-    dice: &mut Dice,
-    tally: &mut Tally,
-) -> Result<(), Fail> {
-    let words = 1_090 + 4 * capacity.min(1_000) as usize + 3;
-    let mut model = new_model(heap, n, capacity as usize)?;
-    let mut acts = Vec::new(heap);
-    for _ in 0..ACTS {
-        let act = any_act(dice, n, model.held());
-        acts.push(act)?;
-        let after = check_last(
-            rt,
-            heap,
-            words,
-            &mut model,
-            acts.as_slice(),
-            act,
-            dice,
-            tally,
-        )?;
-        let alone = words_after(heap, n, words, model.kept.as_slice())?;
-        assert!(rt; after == alone);
+    // Does the acts on a new store and checks what the last one leads to. The answer is the words that they leave.
+    fn check_last(&mut self, model: &mut Model, acts: &[Act], last: Act) -> Result<Vec<u32>, Fail> {
+        let mut words = model.words(self.heap)?;
+        let mut store = Diagrams::make(words.as_mut_slice(), model.n)?;
+        let answer = replay(&mut store, acts);
+        self.check_act(&store, model, last, answer)?;
+        self.check_questions(&store, model)?;
+        drop(store);
+        Ok(words)
     }
-    count(&mut tally.cases);
-    Ok(())
+
+    // One list of acts. After each of them every word is as after the kept operations alone, so a refusal and a release leave no trace.
+    fn check_list(&mut self, n: u32, capacity: u32) -> Result<(), Fail> {
+        let mut model = new_model(self.heap, n, capacity as usize)?;
+        let mut acts = Vec::new(self.heap);
+        for _ in 0..ACTS {
+            let act = any_act(&mut self.dice, n, model.held());
+            acts.push(act)?;
+            let after = self.check_last(&mut model, acts.as_slice(), act)?;
+            let alone = model.words_alone(self.heap)?;
+            assert!(self.rt; after == alone);
+        }
+        count(&mut self.tally.cases);
+        Ok(())
+    }
 }
 
 fn report(rt: &HostRuntime, tally: &Tally) -> Result<(), Fail> {
@@ -573,25 +552,30 @@ fn report(rt: &HostRuntime, tally: &Tally) -> Result<(), Fail> {
 
 #[test]
 fn agrees_with_truth_tables(rt: HostRuntime) -> Result<(), Fail> {
-    let mut dice = Dice {
-        state: 2_463_534_242,
-    };
-    let mut tally = Tally {
-        cases: 0,
-        grown: 0,
-        found: 0,
-        no_switch: 0,
-        no_number: 0,
-        full: 0,
-        released: 0,
+    let mut run = Run {
+        rt: &rt,
+        heap: rt.alloc(),
+        dice: Dice {
+            state: 2_463_534_242,
+        },
+        tally: Tally {
+            cases: 0,
+            grown: 0,
+            found: 0,
+            no_switch: 0,
+            no_number: 0,
+            full: 0,
+            released: 0,
+        },
     };
     for n in 0..=MOST_SWITCHES {
         for _ in 0..LISTS {
-            let capacity = room(&mut dice);
-            check_list(&rt, rt.alloc(), n, capacity, &mut dice, &mut tally)?;
+            let capacity = room(&mut run.dice);
+            run.check_list(n, capacity)?;
         }
     }
-    report(&rt, &tally)?;
+    report(&rt, &run.tally)?;
+    let tally = &run.tally;
     assert!(rt; tally.grown >= 100 && tally.found >= 100 && tally.full >= 100);
     assert!(rt; tally.no_switch >= 50 && tally.no_number >= 100 && tally.released >= 50);
     Ok(())
