@@ -1,5 +1,5 @@
 -- Adding a cell at the head of its chain.
-use Rattle.std.proofs.Common.{◌≡◌, ℕ, zero, suc, ◌+◌, ◌*◌, ◌<◌, ◌≤◌, cond, ◌&&◌, eqb, ltb, ◌≢◌, ◌⊎◌, List, [], ◌∷◌, ◌++◌, length, get_or, set, sym, refl, ap, ◌∙◌, subst, ap₂, inl, inr, ⊎_elim, arith}
+use Rattle.std.proofs.Common.{◌≡◌, ℕ, zero, suc, ◌+◌, ◌*◌, ◌<◌, ◌≤◌, cond, ◌&&◌, eqb, ltb, ◌≢◌, ◌⊎◌, List, [], ◌∷◌, ◌++◌, length, get_or, set, Some, None, sym, refl, ap, ◌∙◌, subst, ap₂, inl, inr, ⊎_elim, arith}
 use Rattle.std.proofs.lemmas.Nat.{mod_below}
 use Rattle.std.proofs.lemmas.List.{length-set, get_or-set_same, get_or-set_other, length_push}
 use Rattle.std.proofs.lemmas.Bool.{eq-eqb, ne_eqb, lt-ltb, and_from, and_right, cases_lt, cases_eq, cond-true, cond-false}
@@ -7,7 +7,7 @@ use Rattle.cells.specs.Cells.{Cell, at, Reduced, Grows, Sides, seek, node, place
 use Rattle.cells.specs.Words.{switches, count, cell_at, next_at, cells_of, chain_of, latest, Lies, WellFormed, pushed, capacity, Stepped, OutOfRoom}
 use Rattle.cells.proofs.Grow.{grows_refl, grows_push, at_push, push_reduced}
 use Rattle.cells.proofs.Held.{seek_none, placed_held, node_one}
-use Rattle.cells.proofs.Build.{placed_none, not_end}
+use Rattle.cells.proofs.Build.{placed_none}
 use Rattle.cells.proofs.Chained.{cells_of_laid, length_cells}
 
 -- what is at each place after a cell is added
@@ -146,27 +146,27 @@ node_placed : (cs : List Cell) (x : Cell) → x.1 ≢ x.2 → node cs x ≡ plac
 unfolding node
 node_placed cs x ne = cond-false _ _ _ (ne_eqb x.1 x.2 ne)
 
-pub stepped_held : (ws : List ℕ) → WellFormed ws → (x : Cell) (r : ℕ) → x.1 ≢ x.2 → r ≢ 0 → r ≡ seek (cells_of ws) x (count ws)
+pub stepped_held : (ws : List ℕ) → WellFormed ws → (x : Cell) (r : ℕ) → x.1 ≢ x.2 → Some r ≡ seek (cells_of ws) x (count ws)
     → Stepped ws ws (node (cells_of ws) x) r
-stepped_held ws s x r ne z e =
+stepped_held ws s x r ne e =
     let cs : List Cell = cells_of ws in
-    let f : r ≡ seek cs x (length cs) = e ∙ ap (seek cs x) (sym (length_cells ws)) in
+    let f : Some r ≡ seek cs x (length cs) = e ∙ ap (seek cs x) (sym (length_cells ws)) in
     record {
       formed = s;
-      answers = sym (node_placed cs x ne ∙ ap (placed cs x) (sym f) ∙ placed_held cs x r (omega arith));
+      answers = sym (node_placed cs x ne ∙ ap (placed cs x) (sym f) ∙ placed_held cs x r);
       grows = grows_refl cs;
       switches_same = refl;
       beyond = λ i h. refl;
     }
 
-node_new : (ws : List ℕ) → (x : Cell) → x.1 ≢ x.2 → 0 ≡ seek (cells_of ws) x (count ws)
+node_new : (ws : List ℕ) → (x : Cell) → x.1 ≢ x.2 → None ≡ seek (cells_of ws) x (count ws)
     → node (cells_of ws) x ≡ (cells_of ws ++ x ∷ [], length (cells_of ws))
 node_new ws x ne e =
     let cs : List Cell = cells_of ws in
-    let f : 0 ≡ seek cs x (length cs) = e ∙ ap (seek cs x) (sym (length_cells ws)) in
+    let f : None ≡ seek cs x (length cs) = e ∙ ap (seek cs x) (sym (length_cells ws)) in
     node_placed cs x ne ∙ ap (placed cs x) (sym f) ∙ placed_none cs x
 
-pub out_of_room : (ws : List ℕ) → WellFormed ws → (x : Cell) → x.1 ≢ x.2 → 0 ≡ seek (cells_of ws) x (count ws) → capacity ws ≤ count ws
+pub out_of_room : (ws : List ℕ) → WellFormed ws → (x : Cell) → x.1 ≢ x.2 → None ≡ seek (cells_of ws) x (count ws) → capacity ws ≤ count ws
     → OutOfRoom ws ws (node (cells_of ws) x)
 out_of_room ws s x ne e full =
     let cs : List Cell = cells_of ws in
@@ -181,18 +181,18 @@ out_of_room ws s x ne e full =
       beyond = λ i h. refl;
     }
 
-pub stepped_new : (ws ws' : List ℕ) → WellFormed ws → (x : Cell) → Sides (switches ws) (cells_of ws) x → x.1 ≢ x.2 → 0 ≡ seek (cells_of ws) x (count ws)
+pub stepped_new : (ws ws' : List ℕ) → WellFormed ws → (x : Cell) → Sides (switches ws) (cells_of ws) x → x.1 ≢ x.2 → None ≡ seek (cells_of ws) x (count ws)
     → count ws < capacity ws → Places ws ws' x → Stepped ws ws' (node (cells_of ws) x) (count ws)
 stepped_new ws ws' s x sd ne e room p =
     let cs : List Cell = cells_of ws in
     let n : ℕ = switches ws in
     let g : length cs ≡ count ws = length_cells ws in
-    let f : 0 ≡ seek cs x (length cs) = e ∙ ap (seek cs x) (sym g) in
+    let f : None ≡ seek cs x (length cs) = e ∙ ap (seek cs x) (sym g) in
     let two : 2 ≤ length cs = s.reduced.two in
     let l : Lies n (cs ++ x ∷ []) ws' = pushed_lies n cs ws ws' x s.lies two (omega arith) (omega arith) p in
     let c : cells_of ws' ≡ cs ++ x ∷ [] = cells_of_laid n (cs ++ x ∷ []) ws' l in
     let w : Reduced n (cs ++ x ∷ []) =
-    push_reduced n cs x s.reduced sd ne (seek_none cs x (length cs) (not_end n cs x s.reduced sd.switch 0 (omega arith)) (sym f)) in
+    push_reduced n cs x s.reduced sd ne (seek_none cs x (length cs) (sym f)) in
     let q : switches ws' ≡ n = l.switches_are in
     record {
       formed = record {
