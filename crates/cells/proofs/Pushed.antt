@@ -4,11 +4,12 @@ use Rattle.std.proofs.lemmas.Nat.{mod_below}
 use Rattle.std.proofs.lemmas.List.{length-set, get_or-set_same, get_or-set_other, length_push}
 use Rattle.std.proofs.lemmas.Bool.{eq-eqb, ne_eqb, lt-ltb, and_from, and_right, cases_lt, cases_eq, cond-true, cond-false}
 use Rattle.cells.specs.Cells.{Cell, at, Reduced, Grows, Sides, seek, node, placed}
-use Rattle.cells.specs.Words.{switches, count, cell_at, next_at, cells_of, chain_of, latest, Lies, WellFormed, pushed, capacity, Stepped, OutOfRoom}
+use Rattle.cells.specs.Words.{switches, count, cell_at, next_at, cells_of, chain_of, latest, Lies, WellFormed, written, pushed, capacity, Stepped, OutOfRoom}
 use Rattle.cells.proofs.Grow.{grows_refl, grows_push, at_push, push_reduced}
 use Rattle.cells.proofs.Held.{seek_none, placed_held, node_one}
 use Rattle.cells.proofs.Build.{placed_none}
 use Rattle.cells.proofs.Chained.{cells_of_laid, length_cells}
+use Rattle.cells.proofs.Written.{written_places, cell_stays}
 
 -- what is at each place after a cell is added
 pub record Places (ws ws' : List ℕ) (x : Cell) : Type 0 where
@@ -24,40 +25,27 @@ pushed_places ws x room =
     let p : ℕ = 1090 + 4 * count ws in
     let h : ℕ = 2 + chain_of x in
     let hh : chain_of x < 64 = mod_below _ 64 (omega arith) in
-    let l₀ : List ℕ = set ws p x.0 in
-    let l₁ : List ℕ = set l₀ (p + 1) x.1 in
-    let l₂ : List ℕ = set l₁ (p + 2) x.2 in
+    let w = written_places ws (count ws) x (omega arith) in
+    let l₂ : List ℕ = written ws (count ws) x in
     let l₃ : List ℕ = set l₂ (p + 3) (get_or ws h 0) in
     let l₄ : List ℕ = set l₃ h (count ws) in
     let l₅ : List ℕ = set l₄ 1 (count ws + 1) in
-    let n₀ : length l₀ ≡ length ws = length-set ws p x.0 in
-    let n₁ : length l₁ ≡ length l₀ = length-set l₀ (p + 1) x.1 in
-    let n₂ : length l₂ ≡ length l₁ = length-set l₁ (p + 2) x.2 in
+    let n₂ : length l₂ ≡ length ws = w.length_now in
     let n₃ : length l₃ ≡ length l₂ = length-set l₂ (p + 3) (get_or ws h 0) in
     let n₄ : length l₄ ≡ length l₃ = length-set l₃ h (count ws) in
     let n₅ : length l₅ ≡ length l₄ = length-set l₄ 1 (count ws + 1) in
     let top : (i : ℕ) → i ≢ 1 → i ≢ h → get_or l₅ i 0 ≡ get_or l₃ i 0 =
     λ i a b. get_or-set_other l₄ 1 i (count ws + 1) 0 a ∙ get_or-set_other l₃ h i (count ws) 0 b in
-    let c₀ : get_or l₅ p 0 ≡ x.0 =
-    top p (λ e. omega arith) (λ e. omega arith)
-    ∙ get_or-set_other l₂ (p + 3) p _ 0 (λ e. omega arith) ∙ get_or-set_other l₁ (p + 2) p _ 0 (λ e. omega arith)
-    ∙ get_or-set_other l₀ (p + 1) p _ 0 (λ e. omega arith) ∙ get_or-set_same ws p x.0 0 (omega arith) in
-    let c₁ : get_or l₅ (p + 1) 0 ≡ x.1 =
-    top (p + 1) (λ e. omega arith) (λ e. omega arith)
-    ∙ get_or-set_other l₂ (p + 3) (p + 1) _ 0 (λ e. omega arith) ∙ get_or-set_other l₁ (p + 2) (p + 1) _ 0 (λ e. omega arith)
-    ∙ get_or-set_same l₀ (p + 1) x.1 0 (omega arith) in
-    let c₂ : get_or l₅ (p + 2) 0 ≡ x.2 =
-    top (p + 2) (λ e. omega arith) (λ e. omega arith)
-    ∙ get_or-set_other l₂ (p + 3) (p + 2) _ 0 (λ e. omega arith) ∙ get_or-set_same l₁ (p + 2) x.2 0 (omega arith) in
+    let below : (j : ℕ) → j < 3 → get_or l₅ (p + j) 0 ≡ get_or l₂ (p + j) 0 =
+    λ j b. top (p + j) (λ e. omega arith) (λ e. omega arith) ∙ get_or-set_other l₂ (p + 3) (p + j) _ 0 (λ e. omega arith) in
     record {
       count_now = get_or-set_same l₄ 1 (count ws + 1) 0 (omega arith);
       head_now = get_or-set_other l₄ 1 h (count ws + 1) 0 (λ e. omega arith) ∙ get_or-set_same l₃ h (count ws) 0 (omega arith);
-      cell_now = λ i. (c₀ i, c₁ i, c₂ i);
+      cell_now = cell_stays l₂ l₅ (count ws) below ∙ w.cell_now;
       next_now = top (p + 3) (λ e. omega arith) (λ e. omega arith) ∙ get_or-set_same l₂ (p + 3) (get_or ws h 0) 0 (omega arith);
-      length_now = n₅ ∙ n₄ ∙ n₃ ∙ n₂ ∙ n₁ ∙ n₀;
-      other = λ i a b o. top i a b
-          ∙ get_or-set_other l₂ (p + 3) i _ 0 (λ e. omega arith) ∙ get_or-set_other l₁ (p + 2) i _ 0 (λ e. omega arith)
-          ∙ get_or-set_other l₀ (p + 1) i _ 0 (λ e. omega arith) ∙ get_or-set_other ws p i _ 0 (λ e. omega arith);
+      length_now = n₅ ∙ n₄ ∙ n₃ ∙ n₂;
+      other = λ i a b o. top i a b ∙ get_or-set_other l₂ (p + 3) i _ 0 (λ e. omega arith)
+          ∙ w.other i (⊎_elim (λ (l : i < p). inl l) (λ (l : p + 4 ≤ i). inr (omega arith)) o);
     }
 
 pub latest_kept : (cs ds : List Cell) → Grows cs ds → (h m : ℕ) → m ≤ length cs → latest ds h m ≡ latest cs h m

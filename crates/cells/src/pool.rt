@@ -19,13 +19,10 @@ pub(crate) fn push_cell(words: &mut [u32], x: Node) -> u32
     ensures after { words.new ≡ pushed words.old (cell_of x) }
 {
     let cell = words[COUNT_WORD];
-    let place = CELLS + CELL_WORDS * cell as usize;
     let head = HEADS + x.chain();
     let older = words[head];
-    words[place] = x.switch;
-    words[place + LOW] = x.low;
-    words[place + HIGH] = x.high;
-    words[place + NEXT] = older;
+    x.write(words, cell);
+    words[CELLS + CELL_WORDS * cell as usize + NEXT] = older;
     words[head] = cell;
     words[COUNT_WORD] = cell + 1;
     cell
@@ -77,10 +74,7 @@ pub(crate) fn pop_cell(words: &mut [u32])
     let place = CELLS + CELL_WORDS * cell as usize;
     let head = HEADS + (Cells { words }).node(cell).chain();
     words[head] = words[place + NEXT];
-    words[place] = 0;
-    words[place + LOW] = 0;
-    words[place + HIGH] = 0;
-    words[place + NEXT] = 0;
+    words[place..place + CELL_WORDS].fill(0);
     words[COUNT_WORD] = cell;
 }
 

@@ -1,7 +1,7 @@
 // The cells of a store, as they are read, and questions about their sets.
 ghost use Rattle.cells.specs.Words.{WellFormed};
 
-use super::layout::{ALL, CELL_WORDS, CELLS, COUNT_WORD, EMPTY, FLOOR, HEADS, HIGH, LOW, NEXT};
+use super::layout::{ALL, CELL_WORDS, CELLS, EMPTY, FLOOR, HEADS, HIGH, LOW, NEXT};
 use super::node::Node;
 
 // The words of a store, to be read.
@@ -16,13 +16,6 @@ impl Cells<'_> {
     ghost use Rattle.cells.specs.Cells.{seek, mean};
     ghost use Rattle.cells.specs.Words.{switches, count, cell_at, next_at, cells_of, LowestOf};
     ghost use Rattle.cells.specs.Nodes.{cell_of};
-
-    // How many cells are held.
-    pub fn count(&self) -> u32
-        ensures { result ≡ count self.now.words.now }
-    {
-        self.words[COUNT_WORD]
-    }
 
     // The cell of a number.
     pub fn node(&self, cell: u32) -> Node
