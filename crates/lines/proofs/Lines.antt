@@ -1,6 +1,9 @@
 -- One line after the other.
-use Rattle.std.proofs.Common.{◌≡◌, ℕ, zero, suc, ◌+◌, ◌<◌, ◌≤◌, Bool, true, false, cond, eqb, List, [], ◌∷◌, ◌++◌, length, get_or, take, drop, sym, refl, ap, ◌∙◌, subst, inl, inr, ⊎_elim, append_assoc, append-nil, arith, take_all, eq-eqb, eqb-true}
-use Rattle.std.proofs.lemmas.List.{at_drop_more, at_drop_all, take_more}
+use Rattle.std.proofs.Common.{not, Some, None, ◌≡◌, ℕ, zero, suc, ◌+◌, ◌<◌, ◌≤◌, Bool, true, false, cond, eqb, List, [], ◌∷◌, ◌++◌, length, get_or, take, drop, sym, refl, ap, ◌∙◌, subst, inl, inr, ⊎_elim, arith, take_all, eq-eqb, eqb-true}
+use Rattle.std.proofs.lemmas.List.{drop_all}
+use Rattle.std.proofs.Math.Numerals.{one-add}
+use Rattle.std.specs.List.{position, position_or_len}
+use Rattle.std.proofs.lemmas.Bool.Decides.{nat_tests}
 use Rattle.lines.specs.Lines.{until_feed, past_feed, onto, lines_of, Divided, FirstLine}
 
 more_by : (b : Bool) (x y : ℕ) (ys : List ℕ) → FirstLine (y ∷ ys)
@@ -32,30 +35,44 @@ pub past_less : (s : List ℕ) → 0 < length s → length (past_feed s) < lengt
 past_less [] h = absurd (omega arith)
 past_less (x ∷ r) h = let g = shorter_by (eqb x 10) r (past_feed r) (past_shorter r) in omega arith
 
--- a look along the line: no line feed stood before i
-pub until_on : (s : List ℕ) (i : ℕ) (b : Bool) → i < length s → eqb (get_or s i 0) 10 ≡ b → until_feed (drop i s) ≡ cond b [] (get_or s i 0 ∷ until_feed (drop (i + 1) s))
-until_on s i b h e = at_drop_more until_feed s i 0 h ∙ ap (λ (t : Bool). cond t [] (get_or s i 0 ∷ until_feed (drop (i + 1) s))) e
+-- the first line feed's place
+abbrev pub feed : ℕ → Bool
+feed x = eqb x 10
 
-pub past_on : (s : List ℕ) (i : ℕ) (b : Bool) → i < length s → eqb (get_or s i 0) 10 ≡ b → past_feed (drop i s) ≡ cond b (drop (i + 1) s) (past_feed (drop (i + 1) s))
-past_on s i b h e = at_drop_more past_feed s i 0 h ∙ ap (λ (t : Bool). cond t (drop (i + 1) s) (past_feed (drop (i + 1) s))) e
+until_is : (s : List ℕ) → take (position_or_len feed s) s ≡ until_feed s
+until_is [] = refl
+until_is (x ∷ r) = go (feed x) (until_is r)
+  where
+    go : (b : Bool) → take (position_or_len feed r) r ≡ until_feed r → take (cond (not b) (1 + position_or_len feed r) 0) (x ∷ r) ≡ cond b [] (x ∷ until_feed r)
+    go true e = refl
+    go false e = rw one-add (ap (λ (t : List ℕ). x ∷ t) e)
 
--- what is known of a line where no line feed stood before i
-abbrev pub Passed : List ℕ → ℕ → Type 0
-Passed s i = (until_feed s ≡ take i s ++ until_feed (drop i s)) × (past_feed s ≡ past_feed (drop i s))
+past_is : (s : List ℕ) → drop (position_or_len feed s + 1) s ≡ past_feed s
+past_is [] = refl
+past_is (x ∷ r) = go (feed x) (past_is r)
+  where
+    go : (b : Bool) → drop (position_or_len feed r + 1) r ≡ past_feed r → drop (cond (not b) (1 + position_or_len feed r) 0 + 1) (x ∷ r) ≡ cond b r (past_feed r)
+    go true e = refl
+    go false e = ap (λ (n : ℕ). drop n (x ∷ r)) (let z : 1 + position_or_len feed r + 1 ≡ suc (position_or_len feed r + 1) = omega arith in z) ∙ e
 
-pub passed_more : (s : List ℕ) (i : ℕ) → i < length s → eqb (get_or s i 0) 10 ≡ false → Passed s i → Passed s (i + 1)
-passed_more s i h e p = (
-  p.0 ∙ ap (λ (r : List ℕ). take i s ++ r) (until_on s i false h e) ∙ sym (append_assoc (take i s) (get_or s i 0 ∷ []) (until_feed (drop (i + 1) s))) ∙ ap (λ (l : List ℕ). l ++ until_feed (drop (i + 1) s)) (sym (take_more s i 0 h)),
-  p.1 ∙ past_on s i false h e,
-)
+some_is : (b : Bool) (n i : ℕ) → Some i ≡ cond b (Some n) None → i ≡ n
+some_is true n i e = cc
+some_is false n i e = cc
 
-pub passed_feed : (s : List ℕ) (i : ℕ) → i < length s → eqb (get_or s i 0) 10 ≡ true → Passed s i → (take i s ≡ until_feed s) × (drop (i + 1) s ≡ past_feed s)
-passed_feed s i h e p =
-    (sym (p.0 ∙ ap (λ (r : List ℕ). take i s ++ r) (until_on s i true h e) ∙ append-nil (take i s)), sym (p.1 ∙ past_on s i true h e))
+none_is : (b : Bool) (n : ℕ) → None ≡ cond b (Some n) None → b ≡ false
+none_is true n e = cc
+none_is false n e = refl
 
-pub passed_all : (s : List ℕ) (i : ℕ) → length s ≤ i → Passed s i → (s ≡ until_feed s) × (past_feed s ≡ [])
-passed_all s i h p =
-    (sym (p.0 ∙ ap (λ (r : List ℕ). take i s ++ r) (at_drop_all until_feed s i h) ∙ append-nil (take i s) ∙ take_all i s h), p.1 ∙ at_drop_all past_feed s i h)
+pub at_feed : (s : List ℕ) (i : ℕ) → Some i ≡ position feed s → (take i s ≡ until_feed s) × (drop (i + 1) s ≡ past_feed s)
+at_feed s i e =
+    let n = some_is _ _ _ e in
+    (ap (λ (m : ℕ). take m s) n ∙ until_is s, ap (λ (m : ℕ). drop (m + 1) s) n ∙ past_is s)
+
+pub no_feed : (s : List ℕ) → None ≡ position feed s → (s ≡ until_feed s) × ([] ≡ past_feed s)
+no_feed s e =
+    let l = none_is _ _ e in
+    let n : length s ≤ position_or_len feed s = grind (arith, nat_tests) in
+    (sym (take_all (position_or_len feed s) s n) ∙ until_is s, sym (drop_all (position_or_len feed s + 1) s (omega arith)) ∙ past_is s)
 
 divided_by : (b : Bool) (x : ℕ) (r : List ℕ) → eqb x 10 ≡ b → Divided r (until_feed r) (past_feed r) → Divided (x ∷ r) (cond b [] (x ∷ until_feed r)) (cond b r (past_feed r))
 divided_by true x r e d = (λ k h. absurd (omega arith), inr (ap (λ (y : ℕ). y ∷ r) (eqb-true x 10 e)))

@@ -13,10 +13,8 @@ pub fn first_line(text: &[u8]) -> (&[u8], &[u8])
     ensures first { 0 < length text.now → FirstLine text.now }
     ensures shorter { 0 < length text.now → length result.1.now < length text.now }
 {
-    for (i, b) in text.iter().enumerate() {
-        if *b == b'\n' {
-            return (&text[0..i], &text[i + 1..]);
-        }
+    match text.iter().position(|b| *b == b'\n') {
+        Some(i) => (&text[..i], &text[i + 1..]),
+        None => (text, &[]),
     }
-    (text, &text[text.len()..])
 }

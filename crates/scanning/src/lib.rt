@@ -7,7 +7,7 @@ ghost use Rattle.scanning.specs.Modes.{begun, step, steps, open_in, open_after};
 ghost use Rattle.scanning.specs.Pieces.{Scanned};
 
 // What the next byte stands in. Where a byte alone does not tell, it is pending, in a mode of its own.
-#[derive(Clone, Copy)]
+#[derive(Clone, Copy, PartialEq, Eq, Debug)]
 pub enum Mode {
     // outside comments and literals
     Code,
@@ -30,7 +30,7 @@ pub enum Mode {
 }
 
 // Goes over the bytes of one line. The next line has a scanner of its own, since at a line's end all but a block comment return to code.
-#[derive(Drop)]
+#[derive(PartialEq, Eq, Debug, Drop)]
 pub struct Scanner {
     mode: Mode,
 }
@@ -85,10 +85,7 @@ impl Scanner {
     pub fn in_comment(&self) -> bool
         ensures { result ≡ open_in self.now.mode }
     {
-        match self.mode {
-            Mode::Block | Mode::Star => true,
-            _ => false,
-        }
+        matches!(self.mode, Mode::Block | Mode::Star)
     }
 }
 

@@ -1,15 +1,9 @@
 -- How long the token is that begins a part of a line. Assumes nothing.
---   front_none     nothing begins an empty part
 --   front_some     a token has a byte at least
 --   front_within   a token ends within the part
-use Rattle.std.proofs.Common.{◌≡◌, ℕ, suc, ◌≤◌, Bool, true, false, cond, eqb, leb, [], ◌∷◌, length, take, None, refl, arith}
+use Rattle.std.proofs.Common.{◌≡◌, ℕ, suc, ◌≤◌, Bool, true, false, cond, eqb, leb, [], ◌∷◌, length, refl, arith}
 use Rattle.std.proofs.lemmas.Bool.{and_parts, leb-true}
 use Rattle.text.specs.Tokens.{Bytes, Tok, word_byte, run, word, pair, front, not, and, or, opened, closed, other}
-use Rattle.text.specs.Pulling.{begins}
-
-pub front_none : (s : Bytes) (at : ℕ) (t : Bytes) → length s ≡ 0 → t ≡ take 0 s → (None ≡ begins at s) × (t ≡ take (front s).1 s)
-front_none [] at t h e = (refl, e)
-front_none (x ∷ s) at t h e = absurd (omega arith)
 
 run_within : (s : Bytes) → length (run s) ≤ length s
 run_within [] = omega arith

@@ -2,13 +2,10 @@
 --   enough           two numbers of tokens that are as large as the bytes are many give the same tokens
 --   lexed_length     there are no more tokens than are admitted
 --   tokens_length    there are no more tokens than bytes in the line
---   left_length      the same of those that are left to pull
 --   all c at s       the tokens of s, with as many admitted as there are bytes
 --   all_begun        they are the one that begins behind the gap, and those behind it
 use Rattle.std.proofs.Common.{◌≡◌, ℕ, zero, suc, ◌+◌, ◌<◌, ◌≤◌, Bool, List, [], ◌∷◌, length, drop, sym, refl, ap, ◌∙◌, arith, length-drop}
-use Rattle.text.specs.declared.scanner.Tokens.{Tokens}
 use Rattle.text.specs.Tokens.{Bytes, Placed, gap, between, front, begun, lexed, tokens_at}
-use Rattle.text.specs.Pulling.{left}
 use Rattle.text.proofs.Fronts.{front_some}
 
 begun_same : (f h : ℕ → Bytes → List Placed) (at : ℕ) (r : Bytes) → ((n : ℕ) (q : Bytes) → length q < length r → f n q ≡ h n q) → begun f at r ≡ begun h at r
@@ -42,9 +39,6 @@ lexed_length c (suc k) at s = begun_length (λ n r. lexed c k n r) k (at + gap c
 
 pub tokens_length : (c : Bool) (line : Bytes) (from : ℕ) → length (tokens_at c line from) ≤ length line
 tokens_length c line from = omega (arith, lexed_length c (length (drop from line)) (suc from) (drop from line), length-drop from line)
-
-pub left_length : (t : Tokens) → length (left t) ≤ length t.line.now
-left_length t = tokens_length t.comments t.line.now t.next
 
 abbrev pub all : Bool → ℕ → Bytes → List Placed
 all c at s = lexed c (length s) at s

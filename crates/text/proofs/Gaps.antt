@@ -1,10 +1,12 @@
 -- Blanks and comments in front, as slice patterns part them. Assumes nothing.
 --   tail n s         what is left of s behind n bytes, as a pattern has it
---   comment-..       a block comment's inside: its end in front, one byte more, nothing left
---   gap-..           what stands in front: a block comment, a line comment, a blank, or none of these
-use Rattle.std.proofs.Common.{◌≡◌, ℕ, suc, ◌+◌, ◌-◌, ◌<◌, ◌≤◌, Bool, true, false, cond, ◌&&◌, eqb, ◌⊎◌, [], ◌∷◌, length, get_or, take, drop, sym, refl, ap, ◌∙◌, inl, inr, arith, length-drop}
-use Rattle.std.proofs.lemmas.List.{drop_all, drop-drop, take_rest}
-use Rattle.std.proofs.lemmas.Bool.{eq-eqb, ne_eqb, eqb-true, cases_eq, and_left, and_right}
+--   not_both         two bytes are not both as told
+--   inside_is        the gap inside a block comment is up to its end, and then between
+--   gap_comment      a block comment in front of a gap
+--   gap_zero         nothing of a gap stands in front
+use Rattle.std.proofs.Common.{◌≡◌, ℕ, suc, ◌+◌, ◌-◌, ◌≤◌, Bool, true, false, cond, ◌&&◌, eqb, ◌⊎◌, [], ◌∷◌, length, get_or, take, drop, sym, refl, ap, ◌∙◌, inl, inr, arith}
+use Rattle.std.proofs.lemmas.List.{drop-drop, take_rest}
+use Rattle.std.proofs.lemmas.Bool.{ne_eqb, eqb-true, cases_eq, and_left, and_right}
 use Rattle.text.specs.Classes.{blank}
 use Rattle.text.specs.Tokens.{Bytes, gap, between, stroke, inside, closing}
 use Rattle.text.specs.Pulling.{in_comment}
@@ -12,28 +14,12 @@ use Rattle.text.specs.Pulling.{in_comment}
 abbrev pub tail : ℕ → Bytes → Bytes
 tail n s = take (length s - n) (drop n s)
 
-pub comment_ends : (s : Bytes) → 2 ≤ length s → get_or s 0 0 ≡ 42 → get_or s 1 0 ≡ 47 → tail 2 s ≡ drop (in_comment s) s
-comment_ends [] h a b = absurd (omega arith)
-comment_ends (x ∷ s) h a b =
-    take_rest (x ∷ s) 2
-    ∙ sym (ap (λ (t : Bool). drop (cond t 2 (suc (in_comment s))) (x ∷ s)) (λ i. eq-eqb x 42 a i && eq-eqb (get_or s 0 0) 47 b i))
-
 pub not_both : (x y a b : ℕ) → (x ≡ a → y ≡ b → ⊥) → (eqb x a && eqb y b) ≡ false
 not_both x y a b h = go (cases_eq x a)
   where
     go : (x ≡ a) ⊎ (x ≡ a → ⊥) → (eqb x a && eqb y b) ≡ false
     go (inl e) = and_right (eqb x a) (eqb y b) (ne_eqb y b (h e))
     go (inr n) = and_left (eqb x a) (eqb y b) (ne_eqb x a n)
-
-pub comment_goes : (s : Bytes) → 1 ≤ length s → (get_or s 0 0 ≡ 42 → get_or s 1 0 ≡ 47 → ⊥) → drop (in_comment (tail 1 s)) (tail 1 s) ≡ drop (in_comment s) s
-comment_goes [] h n = absurd (omega arith)
-comment_goes (x ∷ s) h n =
-    ap (λ (t : Bytes). drop (in_comment t) t) (take_rest (x ∷ s) 1)
-    ∙ sym (ap (λ (t : Bool). drop (cond t 2 (suc (in_comment s))) (x ∷ s)) (not_both x (get_or s 0 0) 42 47 n))
-
-pub comment_none : (s : Bytes) → length s ≡ 0 → s ≡ drop (in_comment s) s
-comment_none [] h = refl
-comment_none (x ∷ s) h = absurd (omega arith)
 
 inside_split : (c : Bool) (x : ℕ) (s : Bytes) (star : Bool) → gap c inside s ≡ in_comment s + gap c between (drop (in_comment s) s)
     → suc (cond star (gap c closing s) (gap c inside s)) ≡ (cond (star && eqb (get_or s 0 0) 47) 2 (suc (in_comment s))) + gap c between (drop (cond (star && eqb (get_or s 0 0) 47) 2 (suc (in_comment s))) (x ∷ s))
@@ -49,33 +35,17 @@ pub inside_is : (c : Bool) (s : Bytes) → gap c inside s ≡ in_comment s + gap
 inside_is c [] = refl
 inside_is c (x ∷ s) = inside_split c x s (eqb x 42) (inside_is c s)
 
--- a block comment: what is left behind it has the same gap left, and is shorter
+-- a block comment: what is left behind it has the same gap left
 pub gap_comment : (c : Bool) (s t : Bytes) → c ≡ true → 2 ≤ length s → get_or s 0 0 ≡ 47 → get_or s 1 0 ≡ 42 → t ≡ drop (in_comment (tail 2 s)) (tail 2 s)
-    → (drop (gap c between t) t ≡ drop (gap c between s) s) × (length t < length s)
+    → drop (gap c between t) t ≡ drop (gap c between s) s
 gap_comment c [] t k h a b e = absurd (omega arith)
 gap_comment c (x ∷ []) t k h a b e = absurd (omega arith)
 gap_comment c (x ∷ y ∷ s) t k h a b e =
     let n = in_comment s in
     let f : t ≡ drop n s = e ∙ ap (λ (z : Bytes). drop (in_comment z) z) (take_rest (x ∷ y ∷ s) 2) in
-    let g : gap c between (x ∷ y ∷ s) ≡ suc (suc (gap c inside s)) = (λ i. gap (k i) between (a i ∷ b i ∷ s)) ∙ ap (λ (q : Bool). suc (suc (gap q inside s))) (sym k) in (
-      ap (λ (z : Bytes). drop (gap c between z) z) f ∙ drop-drop (gap c between (drop n s)) n s
-          ∙ ap (λ (m : ℕ). drop m s) (sym (inside_is c s)) ∙ ap (λ (m : ℕ). drop m (x ∷ y ∷ s)) (sym g),
-      omega (arith, ap length f, length-drop n s),
-    )
-
-pub gap_line : (c : Bool) (s t : Bytes) → c ≡ true → 2 ≤ length s → get_or s 0 0 ≡ 47 → get_or s 1 0 ≡ 47 → length t ≡ 0 → t ≡ drop (gap c between s) s
-gap_line c [] t k h a b e = absurd (omega arith)
-gap_line c (x ∷ []) t k h a b e = absurd (omega arith)
-gap_line c (x ∷ y ∷ s) (z ∷ t) k h a b e = absurd (omega arith)
-gap_line c (x ∷ y ∷ s) [] k h a b e =
-    let g : gap c between (x ∷ y ∷ s) ≡ suc (suc (length s)) = λ i. gap (k i) between (a i ∷ b i ∷ s) in
-    sym (ap (λ (m : ℕ). drop m (x ∷ y ∷ s)) g ∙ drop_all (length s) s (omega arith))
-
-pub gap_blank : (c : Bool) (s : Bytes) → 1 ≤ length s → blank (get_or s 0 0) ≡ true → drop (gap c between (tail 1 s)) (tail 1 s) ≡ drop (gap c between s) s
-gap_blank c [] h b = absurd (omega arith)
-gap_blank c (x ∷ s) h b =
-    ap (λ (z : Bytes). drop (gap c between z) z) (take_rest (x ∷ s) 1)
-    ∙ sym (ap (λ (t : Bool). drop (cond t (suc (gap c between s)) (cond (c && eqb x 47) (gap c stroke s) 0)) (x ∷ s)) b)
+    let g : gap c between (x ∷ y ∷ s) ≡ suc (suc (gap c inside s)) = (λ i. gap (k i) between (a i ∷ b i ∷ s)) ∙ ap (λ (q : Bool). suc (suc (gap q inside s))) (sym k) in
+    ap (λ (z : Bytes). drop (gap c between z) z) f ∙ drop-drop (gap c between (drop n s)) n s
+    ∙ ap (λ (m : ℕ). drop m s) (sym (inside_is c s)) ∙ ap (λ (m : ℕ). drop m (x ∷ y ∷ s)) (sym g)
 
 stroke_none : (c : Bool) (s : Bytes) → (get_or s 0 0 ≡ 42 → ⊥) → (get_or s 0 0 ≡ 47 → ⊥) → gap c stroke s ≡ 0
 stroke_none c [] m n = refl
@@ -90,6 +60,3 @@ pub gap_zero : (c : Bool) (s : Bytes) → (1 ≤ length s → blank (get_or s 0 
 gap_zero c [] b m n = refl
 gap_zero c (x ∷ s) b m n =
     ap (λ (t : Bool). cond t (suc (gap c between s)) (cond (c && eqb x 47) (gap c stroke s) 0)) (b (omega arith)) ∙ slash_none c x s (eqb x 47) refl m n
-
-pub gap_none : (c : Bool) (s : Bytes) → (1 ≤ length s → blank (get_or s 0 0) ≡ false) → (c ≡ true → get_or s 0 0 ≡ 47 → get_or s 1 0 ≡ 42 → ⊥) → (c ≡ true → get_or s 0 0 ≡ 47 → get_or s 1 0 ≡ 47 → ⊥) → s ≡ drop (gap c between s) s
-gap_none c s b m n = ap (λ (k : ℕ). drop k s) (sym (gap_zero c s b m n))

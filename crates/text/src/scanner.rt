@@ -1,7 +1,6 @@
 // The tokens of a line, pulled one by one.
 ghost use Rattle.std.specs.Prelude.{◌≡◌, suc, ◌-◌, ◌<◌, ◌≤◌, List, length, take, drop, Some};
-ghost use Rattle.std.specs.Str.{bytes_eq};
-ghost use Rattle.text.specs.Classes.{blank, digit};
+ghost use Rattle.text.specs.Classes.{blank};
 ghost use Rattle.text.specs.Tokens.{Placed, word_byte, tokens_at, front, gap, between, word as word_of, run as run_of};
 ghost use Rattle.text.specs.Pulling.{part_of, bytes, place, placed, begins, in_comment, left, place_or, Pulls};
 ghost use Rattle.text.specs.Reading.{Reads};
@@ -9,14 +8,14 @@ ghost use Rattle.text.specs.Reading.{Reads};
 use crate::{Class, class_of};
 
 // Some bytes of a line, and the place of the first, counted from 1.
-#[derive(Clone, Copy)]
+#[derive(Clone, Copy, PartialEq, Eq, Debug)]
 pub struct Part<'a> {
     pub text: &'a [u8],
     pub at: usize,
 }
 
 // A token with its part of the line; `End` has the empty part one past the line.
-#[derive(Clone, Copy)]
+#[derive(Clone, Copy, PartialEq, Eq, Debug)]
 pub enum Token<'a> {
     Zero(Part<'a>),
     One(Part<'a>),
@@ -38,17 +37,17 @@ impl<'a> Token<'a> {
         ensures { result ≡ part_of self.entry }
     {
         match self {
-            Token::Zero(part) => part,
-            Token::One(part) => part,
-            Token::Defined(part) => part,
-            Token::Not(part) => part,
-            Token::And(part) => part,
-            Token::Or(part) => part,
-            Token::Open(part) => part,
-            Token::Close(part) => part,
-            Token::Name(part) => part,
-            Token::Other(part) => part,
-            Token::End(part) => part,
+            Token::Zero(part)
+            | Token::One(part)
+            | Token::Defined(part)
+            | Token::Not(part)
+            | Token::And(part)
+            | Token::Or(part)
+            | Token::Open(part)
+            | Token::Close(part)
+            | Token::Name(part)
+            | Token::Other(part)
+            | Token::End(part) => part,
         }
     }
 }
@@ -56,39 +55,17 @@ impl<'a> Token<'a> {
 // How long a name may be.
 const NAME_MAX: usize = 63;
 
-// Is `name` this word?
-pub fn is(name: &[u8], word: &[u8]) -> bool
-    ensures { result ≡ bytes_eq name.now word.now }
-{
-    name == word
-}
-
 fn blank_byte(b: u8) -> bool
     ensures { result ≡ blank b }
 {
-    match class_of(b) {
-        Class::Blank => true,
-        _ => false,
-    }
-}
-
-fn digit_byte(b: u8) -> bool
-    ensures { result ≡ digit b }
-{
-    match class_of(b) {
-        Class::Digit => true,
-        _ => false,
-    }
+    class_of(b) == Class::Blank
 }
 
 // Is `b` a letter or a digit?
-fn word_byte(b: u8) -> bool
+pub fn word_byte(b: u8) -> bool
     ensures { result ≡ word_byte b }
 {
-    match class_of(b) {
-        Class::Letter | Class::Digit => true,
-        _ => false,
-    }
+    matches!(class_of(b), Class::Letter | Class::Digit)
 }
 
 // What the run of letters and digits `part` is.
@@ -97,15 +74,15 @@ fn word<'a>(part: Part<'a>) -> Token<'a>
     ensures placed { placed result ≡ Some (word_of part.entry.text.now, part.entry.at) }
     ensures part { part_of result ≡ part.entry }
 {
-    if digit_byte(part.text[0]) {
-        if is(part.text, b"0") {
+    if class_of(part.text[0]) == Class::Digit {
+        if part.text == b"0".as_slice() {
             Token::Zero(part)
-        } else if is(part.text, b"1") {
+        } else if part.text == b"1".as_slice() {
             Token::One(part)
         } else {
             Token::Other(part)
         }
-    } else if is(part.text, b"defined") {
+    } else if part.text == b"defined".as_slice() {
         Token::Defined(part)
     } else if part.text.len() <= NAME_MAX {
         Token::Name(part)
@@ -115,15 +92,11 @@ fn word<'a>(part: Part<'a>) -> Token<'a>
 }
 
 // How many bytes in front are letters and digits.
-fn run(s: &[u8]) -> usize
+pub fn run(s: &[u8]) -> usize
     ensures front { take result s.now ≡ run_of s.now }
     ensures within { result ≤ length s.now }
 {
-    let mut n = 0;
-    while n < s.len() && word_byte(s[n]) {
-        n += 1;
-    }
-    n
+    s.iter().position(|b| !word_byte(*b)).unwrap_or(s.len())
 }
 
 // The first `len` bytes of `rest`, which stands at `at` of its line.
@@ -133,7 +106,7 @@ fn cut<'a>(rest: &'a [u8], len: usize, at: usize) -> Part<'a>
     ensures at { result.at ≡ at }
 {
     Part {
-        text: &rest[0..len],
+        text: &rest[..len],
         at,
     }
 }
@@ -157,7 +130,7 @@ fn first_token<'a>(rest: &'a [u8], at: usize) -> Token<'a>
 }
 
 // What is left behind the end of the block comment that `text` is in; nothing where it has no end.
-fn behind_comment<'a>(text: &'a [u8]) -> &'a [u8]
+pub fn behind_comment<'a>(text: &'a [u8]) -> &'a [u8]
     ensures { result.now ≡ drop (in_comment text.now) text.now }
 {
     let mut rest = text;
@@ -178,7 +151,7 @@ fn behind_gap<'a>(text: &'a [u8], comments: bool) -> &'a [u8]
     loop {
         match rest {
             [b'/', b'*', inside @ ..] if comments => rest = behind_comment(inside),
-            [b'/', b'/', line @ ..] if comments => return &line[line.len()..],
+            [b'/', b'/', ..] if comments => return &[],
             [first, tail @ ..] if blank_byte(*first) => rest = tail,
             _ => return rest,
         }
@@ -189,11 +162,7 @@ fn behind_gap<'a>(text: &'a [u8], comments: bool) -> &'a [u8]
 fn behind<'a>(line: &'a [u8], from: usize) -> &'a [u8]
     ensures { result.now ≡ drop from line.now }
 {
-    if from < line.len() {
-        &line[from..]
-    } else {
-        &line[line.len()..]
-    }
+    line.get(from..).unwrap_or_default()
 }
 
 // The tokens of a line from some offset on, where comments are known or not.

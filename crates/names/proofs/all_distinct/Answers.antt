@@ -1,16 +1,12 @@
-use Rattle.std.proofs.Common.{true, false, sym, ◌∙◌}
-use Rattle.names.proofs.Turns.{distinct_turn, distinct_end}
+use Rattle.std.proofs.Common.{◌∙◌, rules, tests}
+use Rattle.std.proofs.lemmas.Iterator.{YieldsList-from_slice}
+use Rattle.std.proofs.lemmas.Iterator.Consumers.{YieldsList-from_enumerate}
+use Rattle.std.proofs.lemmas.Iterator.Search.{all_from_yields_List}
+use Rattle.names.proofs.Turns.{new_at, all_is}
 use Rattle.names.proofs.all_distinct.Goals as goal
 
-pub returns-then-is_some : goal.returns-then-is_some
-returns-then-is_some c =
-    let i = c.loop-i.i in
-    sym (distinct_turn c.args.names.now i _ true c.index_of.result c.loop-i-test.true c.index_of.ensures c.if-is_some.ensures) ∙ c.loop-i.invariant
-
-pub loop-i-preserved : goal.loop-i-preserved
-loop-i-preserved c =
-    let i = c.loop-i.i in
-    sym (distinct_turn c.args.names.now i _ false c.index_of.result c.loop-i-test.true c.index_of.ensures c.if-is_some.ensures) ∙ c.loop-i.invariant
-
 pub returns : goal.returns
-returns c = sym (distinct_end c.args.names.now c.loop-i.i c.loop-i-test.false) ∙ c.loop-i.invariant
+returns c =
+    let ns = c.args.names.now in
+    all_from_yields_List (new_at ns) _ _ c.all.result c.all.ensures.ran (YieldsList-from_enumerate (YieldsList-from_slice ns (cc)) (cc)) (λ x b q k. search (rules, tests))
+    ∙ all_is ns

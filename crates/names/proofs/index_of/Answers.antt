@@ -1,14 +1,10 @@
-use Rattle.std.proofs.Common.{true, false, sym, ◌∙◌}
-use Rattle.names.proofs.Turns.{index_turn, index_end}
+use Rattle.std.proofs.Common.{◌∙◌, rules, tests}
+use Rattle.std.proofs.lemmas.Iterator.{YieldsList-from_slice}
+use Rattle.std.proofs.lemmas.Iterator.Search.{position_from_yields_List}
+use Rattle.names.proofs.Turns.{alike, index_is}
 use Rattle.names.proofs.index_of.Goals as goal
 
-pub returns-then-is : goal.returns-then-is
-returns-then-is c =
-    sym (index_turn c.args.names.now c.args.name.now c.loop-i.i _ true c.loop-i-test.true c.if-is.ensures) ∙ c.loop-i.invariant
-
-pub loop-i-preserved : goal.loop-i-preserved
-loop-i-preserved c =
-    sym (index_turn c.args.names.now c.args.name.now c.loop-i.i _ false c.loop-i-test.true c.if-is.ensures) ∙ c.loop-i.invariant
-
 pub returns : goal.returns
-returns c = sym (index_end c.args.names.now c.args.name.now c.loop-i.i c.loop-i-test.false) ∙ c.loop-i.invariant
+returns c =
+    position_from_yields_List (alike c.args.name.now) _ _ c.position.result c.position.ensures.ran (YieldsList-from_slice c.args.names.now (cc)) (λ x b q k. search (rules, tests))
+    ∙ index_is c.args.names.now c.args.name.now

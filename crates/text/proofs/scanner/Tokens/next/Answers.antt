@@ -1,4 +1,4 @@
-use Rattle.std.proofs.Common.{◌≡◌, ◌-◌, Bool, length, drop, refl, ap, ◌∙◌, arith, length-drop}
+use Rattle.std.proofs.Common.{◌≡◌, ◌-◌, Bool, length, drop, refl, ap, ◌∙◌, arith}
 use Rattle.text.specs.Tokens.{Bytes, gap, between}
 use Rattle.text.proofs.Pulled.{pulled}
 use Rattle.text.proofs.scanner.Tokens.next.Goals as goal
@@ -6,13 +6,6 @@ use Rattle.text.proofs.scanner.Tokens.next.Goals as goal
 -- what is left behind the gap
 rest : (c : Bool) (s b r : Bytes) → b ≡ s → r ≡ drop (gap c between b) b → r ≡ drop (gap c between s) s
 rest c s b r e f = f ∙ ap (λ (q : Bytes). drop (gap c between q) q) e
-
-pub overflow_sub-start : goal.overflow_sub-start
-overflow_sub-start c =
-    let line = c.args.self.now.line.now in
-    let from = c.args.self.now.next in
-    let s = c.behind.result.now in
-    omega (arith, ap length c.behind_gap-rest.ensures, length-drop (gap c.args.self.now.comments between s) s, ap length c.behind.ensures, length-drop from line)
 
 pub returns : goal.returns
 returns c =
