@@ -5,16 +5,20 @@ use Rattle.std.specs.List.{range_with_len}
 use Rattle.std.proofs.lemmas.List.FromFn.{length-map-range_with_len, get_or-map-range_with_len, take-map-range_with_len, fill_by_all}
 use Rattle.std.proofs.lemmas.Bool.{cases_lt, leb-true, leb-false, ltb-true, ltb-false, eqb-true, eqb-false, and_cases, and_parts, cond_both}
 use Rattle.stores.specs.Sets.{empty, on}
-use Rattle.stores.specs.Model.{Model, set_at, Appended}
-use Rattle.stores.specs.Outcome.{Accepted, refusal, result}
+use Rattle.stores.specs.Model.{Model, set_at, kept, Appended}
+use Rattle.stores.specs.Outcome.{Op, Accepted, refusal, result}
+use Rattle.bitmaps.specs.Stores.{with_words, rollback}
+use Rattle.bitmaps.specs.Laws.{same_words}
+use Rattle.bitmaps.specs.declared.Bitmaps.{Bitmaps}
 use Rattle.bitmaps.specs.Layout.{width, used, slots, start}
 use Rattle.bitmaps.specs.Meaning.{slot, model_of, means, ValidOf, Valid, cut_word, cut_words}
 use Rattle.bitmaps.specs.Operations.{op_of, Operands, bit_at, Written}
 use Rattle.bitmaps.specs.declared.operation.Operation.{Operation}
-use Rattle.bitmaps.specs.declared.operation.Operation.TheVariants.{Switch, Both, Either, Less}
+use Rattle.stores.specs.declared.connective.Connective.TheVariants.{Both, Either, Less}
+use Rattle.bitmaps.specs.declared.operation.Operation.TheVariants.{Switch, Join}
 use Rattle.bitmaps.proofs.Bits.{on_ones}
-use Rattle.bitmaps.specs.Laws.{starts, size_means, set_means}
-use Rattle.bitmaps.proofs.Slots.{start_next, start_before, word_within, bit_used, guarded, slot_same, sets_same}
+use Rattle.bitmaps.specs.Cutting.{starts, size_means, set_means, start_next, start_before}
+use Rattle.bitmaps.proofs.Slots.{word_within, bit_used, guarded, slot_same, sets_same}
 
 -- a guard goes into each part
 guard_and : (g x y : Bool) → (g && (x && y)) ≡ ((g && x) && (g && y))
@@ -40,9 +44,9 @@ module _ (ws : List ℕ) (v : Valid ws) where
       let top = ap (on (k % 64)) (v.top (k / 64) (word_within n k lt)) ∙ on_ones (used n) (k % 64) (bit_used n k lt) in
       let joined : k / 64 * 64 + k % 64 ≡ k = omega arith in
       ap (λ (b : Bool). b && on i (k / 64 * 64 + k % 64)) top ∙ ap (on i) joined)
-  bits_result (Both a b) h k = guard_and (ltb k (2 ^ n)) _ _ ∙ (λ i. sym (set_means ws a h.0) i k && sym (set_means ws b h.1) i k)
-  bits_result (Either a b) h k = guard_or (ltb k (2 ^ n)) _ _ ∙ (λ i. sym (set_means ws a h.0) i k || sym (set_means ws b h.1) i k)
-  bits_result (Less a b) h k = guard_less (ltb k (2 ^ n)) _ _ ∙ (λ i. sym (set_means ws a h.0) i k && not (sym (set_means ws b h.1) i k))
+  bits_result (Join Both a b) h k = guard_and (ltb k (2 ^ n)) _ _ ∙ (λ i. sym (set_means ws a h.0) i k && sym (set_means ws b h.1) i k)
+  bits_result (Join Either a b) h k = guard_or (ltb k (2 ^ n)) _ _ ∙ (λ i. sym (set_means ws a h.0) i k || sym (set_means ws b h.1) i k)
+  bits_result (Join Less a b) h k = guard_less (ltb k (2 ^ n)) _ _ ∙ (λ i. sym (set_means ws a h.0) i k && not (sym (set_means ws b h.1) i k))
 
 module _ (o : Operation) (ws ws₁ : List ℕ) (v : Valid ws) (len : length ws₁ ≡ length ws) (ok : Operands (get_or ws 0 0) (get_or ws 1 0) o)
     (room : get_or ws 1 0 < slots (length ws) (get_or ws 0 0)) (written : Written (get_or ws 0 0) (get_or ws 1 0) o ws ws₁) where
@@ -151,3 +155,17 @@ module _ (o : Operation) (ws ws₁ : List ℕ) (v : Valid ws) (len : length ws�
         within = omega (arith, appended.len, size_means ws);
         set = ap (λ (m : Model). set_at m C) model₂ ∙ get_or-map-range_with_len (slot N ws₂) 0 (C + 1) C C empty (omega arith) (omega arith) ∙ new_slot;
       }
+
+-- the same of the store as a value
+pub accepted_of : (s : Bitmaps) (ws' : List ℕ) (v' : Valid ws') (need r : ℕ) (op : Op) → Accepted means cut_words s.words.now ws' need op r
+    → Accepted (λ (s : Bitmaps). means s.words.now) rollback s (with_words s ws' v') need op r
+accepted_of s ws' v' need r op h =
+    let ws = s.words.now in
+    let to = length (means ws).held in
+    let held : kept (means ws') to ≡ to = omega (arith, h.grown.appended.len, size_means ws, s.valid.floor) in
+    record {
+      due = h.due;
+      grown = record { appended = h.grown.appended; undo = same_words s _ _ _ s.valid (ap (cut_words ws') held ∙ h.grown.undo) };
+      within = h.within;
+      set = h.set;
+    }

@@ -3,16 +3,16 @@ use Rattle.std.proofs.Common.{◌≡◌, ℕ, ◌+◌, ◌-◌, ◌*◌, ◌^◌
 use lib.Pow.{ones_lt}
 use Rattle.std.proofs.lemmas.List.FromFn.{length-map-range_with_len, get_or-map-range_with_len, fill_by_all}
 use Rattle.std.proofs.lemmas.Bool.{cases_lt, eqb-true, eqb-false, ltb-true, ltb-false, lt-ltb, le-ltb, ne_eqb, cond-true, cond-false, cond_both}
-use Rattle.stores.specs.Sets.{Set}
+use Rattle.stores.specs.Sets.{Set, everything}
 use Rattle.stores.specs.Model.{Model}
 use Rattle.stores.specs.declared.fault.StoreFault.TheVariants.{TooSmall, TooManySwitches}
 use Rattle.bitmaps.specs.Layout.{width, used, full, slots, start}
-use Rattle.bitmaps.specs.Meaning.{everything, model_of, means, ValidOf, Valid}
-use Rattle.bitmaps.specs.Making.{due, new_word, new_words, new_model}
-use Rattle.bitmaps.specs.Stores.{New}
-use Rattle.bitmaps.specs.Laws.{starts}
+use Rattle.bitmaps.specs.Meaning.{model_of, means, ValidOf, Valid}
+use Rattle.bitmaps.specs.Making.{due, room, renewed, new_word, new_words}
+use Rattle.stores.specs.Making.{new_model, New}
+use Rattle.bitmaps.specs.Cutting.{starts, start_before}
 use Rattle.bitmaps.specs.declared.Bitmaps.{Bitmaps}
-use Rattle.bitmaps.proofs.Slots.{start_before, last_within, slot_none, slot_top}
+use Rattle.bitmaps.proofs.Slots.{last_within, slot_none, slot_top}
 
 -- two slots take more words than the header alone
 pub header_fits : (len n : ℕ) → 2 ≤ slots len n → 2 ≤ len
@@ -25,17 +25,17 @@ all_within len n two = last_within len n (header_fits len n two)
 
 -- the refusal due
 
-pub none_due : (len n : ℕ) → n ≤ 10 → 2 ≤ slots len n → due len n ≡ None
-none_due len n few two = cond-false (ltb 10 n) _ _ (le-ltb 10 n few) ∙ cond-false (ltb (slots len n) 2) _ _ (le-ltb (slots len n) 2 two)
+pub none_due : (ws : List ℕ) (n : ℕ) → n ≤ 10 → 2 ≤ room ws n → due ws n ≡ None
+none_due ws n few two = cond-false (ltb 10 n) _ _ (le-ltb 10 n few) ∙ cond-false (ltb (room ws n) 2) _ _ (le-ltb (room ws n) 2 two)
 
 cond_none : {A : Type 0} (b : Bool) (f : A) (x : Option A) → cond b (Some f) x ≡ None → (b ≡ false) × (x ≡ None)
 cond_none true f x e = absurd (let z : ◌≡◌ {A = ℕ} 0 1 = cc in omega arith)
 cond_none false f x e = (refl, e)
 
-pub fine_due : (len n : ℕ) → due len n ≡ None → (n ≤ 10) × (2 ≤ slots len n)
-fine_due len n e =
+pub fine_due : (ws : List ℕ) (n : ℕ) → due ws n ≡ None → (n ≤ 10) × (2 ≤ room ws n)
+fine_due ws n e =
     let p = cond_none (ltb 10 n) TooManySwitches _ e in
-    (ltb-false 10 n p.0, ltb-false (slots len n) 2 (cond_none (ltb (slots len n) 2) TooSmall None p.1).0)
+    (ltb-false 10 n p.0, ltb-false (room ws n) 2 (cond_none (ltb (room ws n) 2) TooSmall None p.1).0)
 
 -- what making writes: all slots zero, then the full one, then the header
 module _ (n : ℕ) (ws ws₁ ws₂ : List ℕ) (two : 2 ≤ slots (length ws) n) (l₁ : length ws₁ ≡ length ws) (l₂ : length ws₂ ≡ length ws₁)
@@ -153,17 +153,14 @@ module _ (n : ℕ) (ws : List ℕ) (few : n ≤ 10) (two : 2 ≤ slots (length w
   abbrev holding : List Set → Model
   holding sets = record { n = n; allowed = everything n; held = sets; floor = 2; capacity = top }
 
-  pub new_model_is : means new ≡ new_model n (length ws)
+  pub new_model_is : means new ≡ new_model n top
   new_model_is =
       (λ i. model_of (n' i) (c' i) (l i) new)
       ∙ (λ i. holding (slot_none n new 0 none_words i ∷ slot_top n new 1 top_words i ∷ []))
 
-pub made_new : (ws : List ℕ) (n : ℕ) (s : Bitmaps) → due (length ws) n ≡ None → s.words.now ≡ new_words n ws → New ws n s
-made_new ws n s none e =
-    let fine = fine_due (length ws) n none in
-    record {
-      due = none;
-      valid = subst Valid (sym e) (new_valid n ws fine.0 fine.1);
-      model = ap means e ∙ new_model_is n ws fine.0 fine.1;
-      words = e;
-    }
+pub renewed_valid : (ws ws' : List ℕ) (n : ℕ) → due ws n ≡ None → renewed ws n ws' → Valid ws'
+renewed_valid ws ws' n none e = let fine = fine_due ws n none in subst Valid (sym e) (new_valid n ws fine.0 fine.1)
+
+pub made_new : (ws : List ℕ) (n : ℕ) (s : Bitmaps) → due ws n ≡ None → renewed ws n s.words.now
+    → New (λ (s : Bitmaps). means s.words.now) (λ (s : Bitmaps). s.words.now) due room renewed ws n s
+made_new ws n s none e = let fine = fine_due ws n none in record { fine = none; means = ap means e ∙ new_model_is n ws fine.0 fine.1; lies = e }

@@ -7,7 +7,7 @@ use Rattle.stores.specs.Sets.{Set, empty, on, Empty, Lowest, LowestIf}
 use Rattle.stores.specs.Model.{set_at}
 use Rattle.bitmaps.specs.Layout.{width, used, slots, start}
 use Rattle.bitmaps.specs.Meaning.{slot, means, Valid, Held}
-use Rattle.bitmaps.specs.Laws.{starts, set_means}
+use Rattle.bitmaps.specs.Cutting.{starts, set_means}
 use Rattle.bitmaps.proofs.Bits.{on_zero, on_within, trailing_below, trailing_on, trailing_within}
 use Rattle.bitmaps.proofs.Slots.{last_within, slot_none, slot_top}
 

@@ -1,37 +1,23 @@
 -- Which refusal of an operation is due.
-use Rattle.std.proofs.Common.{◌≡◌, ℕ, ◌-◌, ◌<◌, ◌≤◌, Bool, true, false, cond, ltb, ◌⊎◌, List, length, get_or, Some, None, Option, sym, refl, ap, ◌∙◌, subst, ⊎_elim, arith}
+use Rattle.std.proofs.Common.{◌≡◌, ℕ, ◌-◌, ◌<◌, ◌≤◌, Bool, true, false, cond, ltb, ◌⊎◌, List, length, get_or, Some, None, Option, sym, refl, ap, ◌∙◌, ⊎_elim, arith}
 use Rattle.std.proofs.lemmas.Bool.{lt-ltb, le-ltb, ltb-true, ltb-false, and_parts}
 use Rattle.stores.specs.Model.{Model}
 use Rattle.stores.specs.Outcome.{refusal, numbers, full}
+use Rattle.stores.specs.Joined.{joined}
 use Rattle.stores.specs.declared.fault.StoreFault.TheVariants.{NoSwitch, NoNumber, Full}
 use Rattle.bitmaps.specs.Layout.{slots}
 use Rattle.bitmaps.specs.Meaning.{means}
 use Rattle.bitmaps.specs.Operations.{op_of, Operands}
 use Rattle.bitmaps.specs.declared.operation.Operation.{Operation}
-use Rattle.bitmaps.specs.declared.operation.Operation.TheVariants.{Switch, Both, Either, Less}
-use Rattle.bitmaps.specs.Laws.{size_means}
+use Rattle.stores.specs.declared.connective.Connective.{Connective}
+use Rattle.stores.specs.declared.connective.Connective.TheVariants.{Both, Either, Less}
+use Rattle.bitmaps.specs.declared.operation.Operation.TheVariants.{Switch, Join}
+use Rattle.bitmaps.specs.Cutting.{size_means}
 
--- an operation on two numbers
-abbrev pub Binary : Operation → ℕ → ℕ → Type 0
-Binary o a b = (o ≡ Both a b) ⊎ ((o ≡ Either a b) ⊎ (o ≡ Less a b))
-
-binary_refusal : (o : Operation) (a b : ℕ) (m : Model) → Binary o a b → refusal m 1 (op_of o) ≡ numbers m a b 1
-binary_refusal o a b m h = ⊎_elim
-    (λ (e : o ≡ Both a b). ap (λ (z : Operation). refusal m 1 (op_of z)) e)
-    (λ (r : (o ≡ Either a b) ⊎ (o ≡ Less a b)). ⊎_elim
-    (λ (e : o ≡ Either a b). ap (λ (z : Operation). refusal m 1 (op_of z)) e)
-    (λ (e : o ≡ Less a b). ap (λ (z : Operation). refusal m 1 (op_of z)) e)
-    r)
-    h
-
-pub binary_operands : (n c : ℕ) (o : Operation) (a b : ℕ) → Binary o a b → a < c → b < c → Operands n c o
-binary_operands n c o a b h p q = ⊎_elim
-    (λ (e : o ≡ Both a b). subst (Operands n c) (sym e) (p, q))
-    (λ (r : (o ≡ Either a b) ⊎ (o ≡ Less a b)). ⊎_elim
-    (λ (e : o ≡ Either a b). subst (Operands n c) (sym e) (p, q))
-    (λ (e : o ≡ Less a b). subst (Operands n c) (sym e) (p, q))
-    r)
-    h
+joined_refusal : (how : Connective) (a b : ℕ) (m : Model) → refusal m 1 (joined how a b) ≡ numbers m a b 1
+joined_refusal Both a b m = refl
+joined_refusal Either a b m = refl
+joined_refusal Less a b m = refl
 
 cond_none : {A : Type 0} (b : Bool) (x : Option A) (f : A) → None ≡ cond b x (Some f) → (b ≡ true) × (None ≡ x)
 cond_none true x f e = (refl, e)
@@ -48,8 +34,8 @@ module _ (ws : List ℕ) where
   abbrev C : ℕ
   C = get_or ws 1 0
 
-  pub no_number : (o : Operation) (a b : ℕ) → Binary o a b → (C ≤ a) ⊎ ((a < C) × (C ≤ b)) → Some NoNumber ≡ refusal (means ws) 1 (op_of o)
-  no_number o a b e h = sym (binary_refusal o a b (means ws) e ∙ ⊎_elim
+  pub no_number : (how : Connective) (a b : ℕ) → (C ≤ a) ⊎ ((a < C) × (C ≤ b)) → Some NoNumber ≡ refusal (means ws) 1 (joined how a b)
+  no_number how a b h = sym (joined_refusal how a b (means ws) ∙ ⊎_elim
       (λ (p : C ≤ a). rw (size_means ws, le-ltb a C p))
       (λ (p : (a < C) × (C ≤ b)). rw (size_means ws, lt-ltb a C p.0, le-ltb b C p.1))
       h)
@@ -57,9 +43,7 @@ module _ (ws : List ℕ) where
   -- with operands in order only room can be wanting
   only_room : (o : Operation) → Operands N C o → refusal (means ws) 1 (op_of o) ≡ full (means ws) 1
   only_room (Switch i) h = ap (λ (b : Bool). cond b (full (means ws) 1) (Some NoSwitch)) (lt-ltb i N h)
-  only_room (Both a b) h = rw (size_means ws, lt-ltb a C h.0, lt-ltb b C h.1)
-  only_room (Either a b) h = rw (size_means ws, lt-ltb a C h.0, lt-ltb b C h.1)
-  only_room (Less a b) h = rw (size_means ws, lt-ltb a C h.0, lt-ltb b C h.1)
+  only_room (Join how a b) h = joined_refusal how a b (means ws) ∙ rw (size_means ws, lt-ltb a C h.0, lt-ltb b C h.1)
 
   pub no_room : (o : Operation) → Operands N C o → slots (length ws) N ≤ C → Some Full ≡ refusal (means ws) 1 (op_of o)
   no_room o ok h = sym (only_room o ok ∙ ap (λ (b : Bool). cond b (Some Full) None) (lt-ltb (slots (length ws) N - length (means ws).held) 1 (omega (arith, h, size_means ws))))
@@ -82,6 +66,4 @@ module _ (ws : List ℕ) where
   -- where none is due, the operands are in order and there is room
   pub none_due : (o : Operation) → None ≡ refusal (means ws) 1 (op_of o) → Operands N C o × (C < slots (length ws) N)
   none_due (Switch i) e = let p = cond_none (ltb i N) (full (means ws) 1) NoSwitch e in (ltb-true i N p.0, some_room p.1)
-  none_due (Both a b) e = numbers_fine a b e
-  none_due (Either a b) e = numbers_fine a b e
-  none_due (Less a b) e = numbers_fine a b e
+  none_due (Join how a b) e = numbers_fine a b (e ∙ joined_refusal how a b (means ws))

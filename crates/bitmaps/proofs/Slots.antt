@@ -1,22 +1,15 @@
 -- Slots, and the sets that they hold.
-use Rattle.std.proofs.Common.{◌≡◌, ℕ, ◌+◌, ◌-◌, ◌*◌, ◌/◌, ◌%◌, ◌^◌, ◌<◌, ◌≤◌, Bool, true, false, ◌&&◌, ltb, List, map, get_or, sym, refl, ap, ◌∙◌, ⊎_elim, suc-mul, le-div_iff_mul-le, add-one, arith, pow_pos, pow_mono, pow-add}
+use Rattle.std.proofs.Common.{◌≡◌, ℕ, ◌+◌, ◌-◌, ◌*◌, ◌/◌, ◌%◌, ◌^◌, ◌<◌, ◌≤◌, Bool, true, false, ◌&&◌, ltb, List, map, get_or, sym, refl, ap, ◌∙◌, ⊎_elim, le-div_iff_mul-le, arith, pow_pos, pow_mono, pow-add}
 use mathlib.Core.Path.{fun_ext}
 use Rattle.std.specs.List.{range_with_len}
 use Rattle.std.proofs.lemmas.List.FromFn.{length-map-range_with_len, get_or-map-range_with_len, fill_by_all}
 use Rattle.std.proofs.lemmas.Bool.{cases_lt, ltb-true}
-use Rattle.stores.specs.Sets.{Set, empty, on}
+use Rattle.stores.specs.Sets.{Set, empty, everything, on}
 use Rattle.bitmaps.specs.Layout.{width, used, full, slots, start}
-use Rattle.bitmaps.specs.Meaning.{everything, slot}
-use Rattle.bitmaps.specs.Laws.{starts}
+use Rattle.bitmaps.specs.Meaning.{slot}
 use Rattle.bitmaps.proofs.Bits.{on_zero, on_ones}
 
 -- where words lie
-
-pub start_next : (n j : ℕ) → start n (j + 1) ≡ start n j + width n
-start_next n j = omega (arith, suc-mul j (width n), ap (λ (z : ℕ). z * width n) (add-one j))
-
-pub start_before : (n i j : ℕ) → i < j → start n i + width n ≤ start n j
-start_before n i j h = omega (arith, start_next n i, starts n (i + 1) j (omega (arith, h)))
 
 pub last_within : (len n : ℕ) → 2 ≤ len → start n (slots len n) ≤ len
 last_within len n h = omega (arith, h, (le-div_iff_mul-le {k = width n} {x = slots len n} {y = len - 2} (pow_pos (n - 6))).0 (omega arith))

@@ -1,21 +1,23 @@
 -- Writing the words of a new slot.
-use Rattle.std.proofs.Common.{◌≡◌, ℕ, ◌+◌, ◌-◌, ◌*◌, ◌^◌, ◌<◌, ◌≤◌, not, ◌&&◌, ◌||◌, ◌≢◌, List, length, get_or, set, sym, refl, ap, ◌∙◌, subst, arith, get_or-set_other, get_or-set_same, below_more}
-use lib.Bits.{bit_and, bit_or, and_le_l, or_lt}
+use Rattle.std.proofs.Common.{◌≡◌, ℕ, ◌+◌, ◌-◌, ◌*◌, ◌^◌, ◌<◌, ◌≤◌, ◌&&◌, ◌≢◌, List, length, get_or, set, sym, refl, ap, ◌∙◌, subst, arith, get_or-set_other, get_or-set_same, below_more}
+use lib.Bits.{bit_and, bit_or, and_le_l}
 use Rattle.stores.specs.Sets.{on}
 use Rattle.bitmaps.specs.Layout.{width, used, slots, start}
 use Rattle.bitmaps.specs.Meaning.{Valid, Held}
-use Rattle.bitmaps.specs.Operations.{Operands, bit_at, NewWord, Written}
+use Rattle.bitmaps.specs.Operations.{Operands, connected, bit_at, NewWord, Written}
 use Rattle.bitmaps.specs.declared.operation.Operation.{Operation}
-use Rattle.bitmaps.specs.declared.operation.Operation.TheVariants.{Switch, Both, Either, Less}
+use Rattle.stores.specs.declared.connective.Connective.{Connective}
+use Rattle.stores.specs.declared.connective.Connective.TheVariants.{Both, Either, Less}
+use Rattle.bitmaps.specs.declared.operation.Operation.TheVariants.{Switch, Join}
 use Rattle.bitmaps.proofs.Bits.{on_and, on_or, on_not}
-use Rattle.bitmaps.specs.Laws.{starts}
-use Rattle.bitmaps.proofs.Slots.{start_next, start_before, last_within}
+use Rattle.bitmaps.specs.Cutting.{starts, start_next, start_before}
+use Rattle.bitmaps.proofs.Slots.{last_within}
 
 pub same_operation : {n : ℕ} {ws : List ℕ} {o o' : Operation} {t r : ℕ} → o ≡ o' → NewWord n ws o' t r → NewWord n ws o t r
 same_operation {n} {ws} {o} {o'} {t} {r} e h = subst (λ (z : Operation). NewWord n ws z t r) (sym e) h
 
 -- the words that each operation makes of its operands' words x and y
-module _ (n : ℕ) (ws : List ℕ) (t x y : ℕ) where
+module _ (n : ℕ) (ws : List ℕ) (t x y r : ℕ) where
   pub switch_new : (i : ℕ) → x ≡ get_or ws (start n 1 + t) 0 → x < 2 ^ used n → ((p : ℕ) → p < 64 → on p y ≡ on i (t * 64 + p)) → NewWord n ws (Switch i) t (bit_and x y)
   switch_new i e small bits =
       record {
@@ -23,26 +25,23 @@ module _ (n : ℕ) (ws : List ℕ) (t x y : ℕ) where
         unused = omega (arith, and_le_l x y, small);
       }
 
-  pub both_new : (a b : ℕ) → x ≡ get_or ws (start n a + t) 0 → y ≡ get_or ws (start n b + t) 0 → x < 2 ^ used n → NewWord n ws (Both a b) t (bit_and x y)
-  both_new a b e f small =
+  pub join_new : (how : Connective) (a b : ℕ) → x ≡ get_or ws (start n a + t) 0 → y ≡ get_or ws (start n b + t) 0
+      → ((p : ℕ) → p < 64 → on p r ≡ connected how (on p x) (on p y)) → r < 2 ^ used n → NewWord n ws (Join how a b) t r
+  join_new how a b e f bits small =
       record {
-        bits = λ p h. on_and p x y ∙ (λ k. on p (e k) && on p (f k));
-        unused = omega (arith, and_le_l x y, small);
+        bits = λ p h. bits p h ∙ (λ k. connected how (on p (e k)) (on p (f k)));
+        unused = small;
       }
 
-  pub either_new : (a b : ℕ) → x ≡ get_or ws (start n a + t) 0 → y ≡ get_or ws (start n b + t) 0 → x < 2 ^ used n → y < 2 ^ used n → NewWord n ws (Either a b) t (bit_or x y)
-  either_new a b e f sx sy =
-      record {
-        bits = λ p h. on_or p x y ∙ (λ k. on p (e k) || on p (f k));
-        unused = or_lt (used n) x y sx sy;
-      }
+-- the bits of the words that are made
+pub and_bits : (x y p : ℕ) → p < 64 → on p (bit_and x y) ≡ connected Both (on p x) (on p y)
+and_bits x y p h = on_and p x y
 
-  pub less_new : (a b : ℕ) → x ≡ get_or ws (start n a + t) 0 → y ≡ get_or ws (start n b + t) 0 → x < 2 ^ used n → y < 2 ^ 64 → NewWord n ws (Less a b) t (bit_and x (18446744073709551615 - y))
-  less_new a b e f small fits =
-      record {
-        bits = λ p h. on_and p x (18446744073709551615 - y) ∙ (λ k. on p (e k) && on_not 64 p y h fits k) ∙ ap (λ (z : ℕ). on p (get_or ws (start n a + t) 0) && not (on p z)) f;
-        unused = omega (arith, and_le_l x (18446744073709551615 - y), small);
-      }
+pub or_bits : (x y p : ℕ) → p < 64 → on p (bit_or x y) ≡ connected Either (on p x) (on p y)
+or_bits x y p h = on_or p x y
+
+pub less_bits : (x y p : ℕ) → y < 2 ^ 64 → p < 64 → on p (bit_and x (18446744073709551615 - y)) ≡ connected Less (on p x) (on p y)
+less_bits x y p fits h = on_and p x (18446744073709551615 - y) ∙ (λ k. on p x && on_not 64 p y h fits k)
 
 -- the words up to word m are written
 pub record Part (n to : ℕ) (o : Operation) (ws ws' : List ℕ) (m : ℕ) : Type 0 where
@@ -84,9 +83,7 @@ module _ (o : Operation) (ws ws' : List ℕ) (to : ℕ) (m : ℕ) (v : Valid ws)
 
   bits_same : (o : Operation) → Operands N C o → (t p : ℕ) → t < width N → bit_at N ws' o t p ≡ bit_at N ws o t p
   bits_same (Switch i) h t p lt = ap (λ (z : ℕ). on p z && on i (t * 64 + p)) (read 1 t (omega (arith, v.floor)) lt)
-  bits_same (Both a b) h t p lt = λ k. on p (read a t h.0 lt k) && on p (read b t h.1 lt k)
-  bits_same (Either a b) h t p lt = λ k. on p (read a t h.0 lt k) || on p (read b t h.1 lt k)
-  bits_same (Less a b) h t p lt = λ k. on p (read a t h.0 lt k) && not (on p (read b t h.1 lt k))
+  bits_same (Join how a b) h t p lt = λ k. connected how (on p (read a t h.0 lt k)) (on p (read b t h.1 lt k))
 
   pub place_within : m < width N → to + m < length ws'
   place_within lt = omega (arith, e, len, lt, last_within (length ws) N v.header, start_before N C (slots (length ws) N) room)

@@ -1,131 +1,44 @@
--- What the contract of a store asks of its ghost members, proved. Assumes nothing.
---   starts             later slots begin later
---   range_later        what is out of a range is out of one that begins later
---   cond_same          two choices by one test are equal if they are where the test fails
---   size_means         as many sets are held as the words say
---   set_means          the set held under a number is the one in its slot
---   inside             held sets have no configuration of 2^n or above
---   means_consistent   words in order mean a consistent store
---   one_bound          the need of every operation is within the bound
---   length_cut         taking slots off leaves as many words
---   get_or_cut           what it makes of each word
---   other_cut          what it makes of each word but the count, at any place
---   kept_cut           the words before the slots taken off are as they were
---   n_cut              so is the number of switches
---   cut_twice          taking off in two steps is taking off at once
---   cut_nothing        taking nothing off changes nothing
---   rollback_is_lawful      the last two, of the store as a value
-use Rattle.std.specs.Prelude.{◌≡◌, ℕ, ◌^◌, ◌<◌, ◌≤◌, Bool, true, false, cond, ◌&&◌, ltb, leb, List, map, length, ◌==◌, ◌≢◌, nat_le, nat_lt, slice_index, refl}
-use Rattle.std.proofs.Common.{sym, ap, ◌∙◌, ⊎_elim, mul-le-mul_right, arith, pow_pos}
-use Rattle.std.specs.List.{range_with_len}
-use Rattle.std.proofs.lemmas.List.FromFn.{length-map-range_with_len, get_or-map-range_with_len, fill_by_all}
-use Rattle.std.proofs.lemmas.List.{get_or_past}
-use Rattle.std.proofs.lemmas.Bool.{cases_lt, leb-true, leb-false, ltb-true, eqb-true, eqb-false, lt-leb, lt-ltb, ne_eqb, and_cases, and_parts, and_left, and_right, cond-false, cond_both, true≢false}
-use Rattle.stores.specs.Sets.{Set, empty}
-use Rattle.stores.specs.Model.{Consistent, set_at}
-use Rattle.stores.specs.Outcome.{Op, RollbackLaws}
-use Rattle.bitmaps.specs.Layout.{width, slots, start}
-use Rattle.bitmaps.specs.Meaning.{slot, means, Valid, one, cut_word, cut_words}
+-- What the contract of a store asks of its ghost members, of bitmap stores as values. Assumes nothing.
+--   same_store           stores in the same words are the same
+--   rollback_is_lawful   taking off in two steps is taking off at once; taking nothing off changes nothing
+use Rattle.std.specs.Prelude.{◌≡◌, ℕ, ◌≤◌, List}
+use Rattle.std.proofs.Common.{ap, ◌∙◌, arith}
+use Rattle.std.proofs.Props.{props}
+use mathlib.Core.HLevel.{is_prop→PathP}
+use Rattle.stores.specs.Model.{kept}
+use Rattle.stores.specs.Outcome.{RollbackLaws}
+use Rattle.bitmaps.specs.Meaning.{means, Valid, cut_words}
+use Rattle.bitmaps.specs.Cutting.{size_means, count_cut, cut_twice, cut_nothing}
 use Rattle.bitmaps.specs.Stores.{with_words, rollback}
 use Rattle.bitmaps.specs.declared.Bitmaps.{Bitmaps}
 
-pub starts : (n i j : ℕ) → i ≤ j → start n i ≤ start n j
-starts n i j h = omega (arith, mul-le-mul_right {m = i} {n = j} (width n) h)
+-- words are in order in one way at most
+Valid_prop : (ws : List ℕ) → IsProp (Valid ws)
+Valid_prop ws = Prim.hlevel props
 
--- what is out of range from an earlier place is so from a later one
-range_later : (f g t i : ℕ) → f ≤ g → (nat_le f i && nat_lt i t) ≡ false → (nat_le g i && nat_lt i t) ≡ false
-range_later f g t i h e = ⊎_elim
-    (λ (x : leb f i ≡ false). and_left (nat_le g i) (nat_lt i t) (lt-leb g i (omega (arith, h, leb-false f i x))))
-    (λ (y : ltb i t ≡ false). and_right (nat_le g i) (nat_lt i t) y)
-    (and_cases (nat_le f i) (nat_lt i t) e)
+pub same_store : (s t : Bitmaps) → s.words ≡ t.words → s ≡ t
+same_store s t e = λ i. record { words = e i; valid = is_prop→PathP (λ i. Valid (e i).now) (λ i. Valid_prop (e i).now) s.valid t.valid i }
 
-cond_same : {A : Type 0} (b : Bool) (x y z : A) → (b ≡ false → y ≡ z) → cond b x y ≡ cond b x z
-cond_same true x y z h = refl
-cond_same false x y z h = h refl
+pub same_words : (s : Bitmaps) (ws ws' : List ℕ) (v : Valid ws) (v' : Valid ws') → ws ≡ ws' → with_words s ws v ≡ with_words s ws' v'
+same_words s ws ws' v v' e = same_store (with_words s ws v) (with_words s ws' v') (ap (λ (l : List ℕ). record { ref_ptr = s.words.ref_ptr; ghost_name = s.words.ghost_name; now = l }) e)
 
-module _ (ws : List ℕ) where
-  abbrev N : ℕ
-  N = slice_index ws 0
+-- where a release in two steps ends
+kept_twice : (ws : List ℕ) → Valid ws → (j k : ℕ) → k ≤ j → kept (means (cut_words ws (kept (means ws) j))) k ≡ kept (means ws) k
+kept_twice ws v j k h =
+    let few = size_means (cut_words ws (kept (means ws) j)) in
+    let cut = count_cut ws (kept (means ws) j) v.header in
+    omega (arith, few, cut, size_means ws, v.floor, h)
 
-  abbrev C : ℕ
-  C = slice_index ws 1
-
-  abbrev cap : ℕ
-  cap = slots (length ws) N
-
-  pub size_means : length (means ws).held ≡ C
-  size_means = length-map-range_with_len (slot N ws) 0 C
-
-  pub set_means : (a : ℕ) → a < C → set_at (means ws) a ≡ slot N ws a
-  set_means a h = get_or-map-range_with_len (slot N ws) 0 C a a empty h (omega arith)
-
-  inside : (a k : ℕ) → set_at (means ws) a k ≡ true → k < 2 ^ N
-  inside a k h = ⊎_elim
-      (λ (lt : a < C). ltb-true k (2 ^ N) (and_parts _ _ (sym (ap (λ (x : Set). x k) (set_means a lt)) ∙ h)).0)
-      (λ (le : C ≤ a).
-      let past : set_at (means ws) a ≡ empty = get_or_past (means ws).held a empty (omega (arith, size_means, le)) in
-      absurd (true≢false (sym h ∙ ap (λ (x : Set). x k) past)))
-      (cases_lt a C)
-
-  pub means_consistent : Valid ws → Consistent (means ws)
-  means_consistent v =
-      record {
-        few = omega (arith, v.few);
-        within = λ k h. ltb-true k (2 ^ N) h;
-        some = λ h. true≢false (sym (lt-ltb 0 (2 ^ N) (pow_pos N)) ∙ h 0);
-        inside = inside;
-        floor = omega (arith, size_means, v.floor);
-        room = omega (arith, size_means, v.room);
-      }
-
-  pub one_bound : (op : Op) → one op ≤ 2 ^ N
-  one_bound op = pow_pos N
-
-  pub length_cut : (k : ℕ) → length (cut_words ws k) ≡ length ws
-  length_cut k = length-map-range_with_len (cut_word N cap ws k) 0 (length ws)
-
-  pub get_or_cut : (k i : ℕ) → i < length ws → slice_index (cut_words ws k) i ≡ cut_word N cap ws k i
-  get_or_cut k i h = get_or-map-range_with_len (cut_word N cap ws k) 0 (length ws) i i 0 h (omega arith)
-
-  pub other_cut : (k i : ℕ) → (i ≢ 1) → slice_index (cut_words ws k) i ≡ cond (nat_le (start N k) i && nat_lt i (start N cap)) 0 (slice_index ws i)
-  other_cut k i ne = ⊎_elim
-      (λ (lt : i < length ws). get_or_cut k i lt ∙ cond-false (i == 1) k _ (ne_eqb i 1 ne))
-      (λ (le : length ws ≤ i).
-      get_or_past (cut_words ws k) i 0 (omega (arith, length_cut k, le))
-      ∙ sym (cond_both (nat_le (start N k) i && nat_lt i (start N cap)) 0 (slice_index ws i) (λ (v : ℕ). v ≡ 0) (λ e. refl) (λ e. get_or_past ws i 0 le)))
-      (cases_lt i (length ws))
-
-  pub kept_cut : (k i : ℕ) → (i ≢ 1) → i < start N k → slice_index (cut_words ws k) i ≡ slice_index ws i
-  kept_cut k i ne h = other_cut k i ne ∙ cond-false (nat_le (start N k) i && nat_lt i (start N cap)) 0 _ (and_left (nat_le (start N k) i) (nat_lt i (start N cap)) (lt-leb (start N k) i h))
-
-  pub n_cut : (k : ℕ) → slice_index (cut_words ws k) 0 ≡ N
-  n_cut k = kept_cut k 0 (λ e. omega (arith, e)) (omega arith)
-
-  pub cut_twice : (j k : ℕ) → k ≤ j → cut_words (cut_words ws j) k ≡ cut_words ws k
-  cut_twice j k h =
-      (λ i. map (cut_word (n_cut j i) (slots (length_cut j i) (n_cut j i)) (cut_words ws j) k) (range_with_len 0 (length_cut j i)))
-      ∙ fill_by_all (cut_word N cap ws k) (map (cut_word N cap (cut_words ws j) k) (range_with_len 0 (length ws))) (length ws) 0
-      (length-map-range_with_len (cut_word N cap (cut_words ws j) k) 0 (length ws))
-      (λ i lt. get_or-map-range_with_len (cut_word N cap (cut_words ws j) k) 0 (length ws) i i 0 lt (omega arith) ∙ word i)
-    where
-      word : (i : ℕ) → cut_word N cap (cut_words ws j) k i ≡ cut_word N cap ws k i
-      word i = cond_same (i == 1) k _ _ (λ e. cond_same (nat_le (start N k) i && nat_lt i (start N cap)) 0 _ _ (λ f.
-          other_cut j i (eqb-false i 1 e) ∙ cond-false (nat_le (start N j) i && nat_lt i (start N cap)) 0 _ (range_later (start N k) (start N j) (start N cap) i (starts N k j h) f)))
-
-  pub cut_nothing : Valid ws → cut_words ws C ≡ ws
-  cut_nothing v = sym (fill_by_all (cut_word N cap ws C) ws (length ws) 0 refl (λ i h. sym (word i)))
-    where
-      word : (i : ℕ) → cut_word N cap ws C i ≡ slice_index ws i
-      word i = cond_both (i == 1) C _ (λ (x : ℕ). x ≡ slice_index ws i)
-          (λ e. ap (λ (j : ℕ). slice_index ws j) (sym (eqb-true i 1 e)))
-          (λ e. cond_both (nat_le (start N C) i && nat_lt i (start N cap)) 0 (slice_index ws i) (λ (x : ℕ). x ≡ slice_index ws i)
-          (λ t. let p = and_parts (nat_le (start N C) i) (nat_lt i (start N cap)) t in
-          sym (v.free i (leb-true (start N C) i p.0) (ltb-true i (start N cap) p.1)))
-          (λ f. refl))
-
-pub rollback_is_lawful : RollbackLaws (λ (s : Bitmaps). Valid s.words.now) (λ (s : Bitmaps). means s.words.now) rollback
+pub rollback_is_lawful : RollbackLaws (λ (s : Bitmaps). means s.words.now) rollback
 rollback_is_lawful =
     record {
-      twice = λ s j k h. ap (with_words s) (cut_twice s.words.now j k h);
-      nothing = λ s v. ap (with_words s) (ap (cut_words s.words.now) (size_means s.words.now) ∙ cut_nothing s.words.now v);
+      twice = λ s j k h.
+          let ws = s.words.now in
+          same_words s _ _ _ _
+          (ap (cut_words (cut_words ws (kept (means ws) j))) (kept_twice ws s.valid j k h)
+          ∙ cut_twice ws (kept (means ws) j) (kept (means ws) k) (omega (arith, h)));
+      nothing = λ s.
+          let ws = s.words.now in
+          same_store _ s (ap (λ (l : List ℕ). record { ref_ptr = s.words.ref_ptr; ghost_name = s.words.ghost_name; now = l })
+          (ap (cut_words ws) (omega (arith, size_means ws, s.valid.floor)) ∙ cut_nothing ws s.valid));
     }

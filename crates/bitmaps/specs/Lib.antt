@@ -2,5 +2,6 @@ pub mod Layout
 pub mod Meaning
 pub mod Making
 pub mod Operations
+pub mod Cutting
 pub mod Stores
 pub mod Laws

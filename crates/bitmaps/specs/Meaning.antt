@@ -1,5 +1,4 @@
 -- What the words of a bitmap store mean. Assumes nothing.
---   everything n           all configurations of n switches
 --   slot n ws j            the set in slot j: configuration k is bit k mod 64 (0 lowest) of word k div 64
 --   model_of n c len ws     the store with n switches and c slots in len words
 --   means ws               the store that the words hold
@@ -11,13 +10,10 @@
 --   cut_words ws k          the words with the slots from k on taken off
 use Rattle.std.specs.Prelude.{◌≡◌, ℕ, ◌+◌, ◌/◌, ◌%◌, ◌^◌, ◌<◌, ◌≤◌, cond, ◌&&◌, List, map, length, ◌==◌, nat_le, nat_lt, slice_index}
 use Rattle.std.specs.List.{range_with_len}
-use Rattle.stores.specs.Sets.{Set, on}
+use Rattle.stores.specs.Sets.{Set, everything, on}
 use Rattle.stores.specs.Model.{Model}
 use Rattle.stores.specs.Outcome.{Op}
 use Rattle.bitmaps.specs.Layout.{width, used, full, slots, start}
-
-abbrev pub everything : ℕ → Set
-everything n = λ k. nat_lt k (2 ^ n)
 
 abbrev pub slot : ℕ → List ℕ → ℕ → Set
 slot n ws j = λ k. nat_lt k (2 ^ n) && on (k % 64) (slice_index ws (start n j + k / 64))

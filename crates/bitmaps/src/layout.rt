@@ -29,74 +29,83 @@ pub(crate) const WORD_BITS: u32 = 64;
 // So many switches tell the bits of one word apart; each further one doubles the words.
 pub(crate) const WORD_SWITCHES: u32 = 6;
 
-// The words of a slot.
-pub(crate) fn slot_words(n: u32) -> usize
-    requires { n ≤ 10 }
-    ensures value { result ≡ width n }
-    ensures bounds { (0 < result) × (result ≤ 16) }
-{
-    1 << n.saturating_sub(WORD_SWITCHES)
-}
-
-// How many slots go into so many words.
-pub(crate) fn capacity(words: usize, n: u32) -> u32
-    requires { n ≤ 10 }
-    ensures { result ≡ slots words n }
-{
-    (words.saturating_sub(HEADER) / slot_words(n)).min(MAX_CAPACITY) as u32
-}
-
-// A word of the slot that has every configuration: bits that stand for none are 0.
-pub(crate) fn full_word(n: u32) -> u64
-    requires { n ≤ 10 }
-    ensures { result ≡ full n }
-{
-    u64::MAX >> (WORD_BITS - (1u32 << n).min(WORD_BITS))
-}
-
-// Where slot `j` begins.
-pub(crate) fn start(n: u32, j: u32) -> usize
-    requires { n ≤ 10 }
-    ensures { result ≡ start n j }
-{
-    HEADER + j as usize * slot_words(n)
-}
-
-// Writes `v` into the words from `from` to `to`.
+// Writes `v` into the words from `from` to `to`, which a proof then knows one by one.
 pub(crate) fn fill(words: &mut [u64], from: usize, to: usize, v: u64)
     requires { (from ≤ to) × (to ≤ length words.old) }
     ensures made { (i : ℕ) → from ≤ i → i < to → slice_index words.new i ≡ v }
     ensures before { (i : ℕ) → i < from → slice_index words.new i ≡ slice_index words.old i }
     ensures after { (i : ℕ) → to ≤ i → slice_index words.new i ≡ slice_index words.old i }
 {
-    for i in from..to {
-        words[i] = v;
+    words[from..to].fill(v);
+}
+
+// The number of a store's switches, which tells where everything lies.
+#[derive(Clone, Copy)]
+pub(crate) struct Switches {
+    pub(crate) n: u32,
+    ghost few: { n ≤ 10 },
+}
+
+impl Switches {
+    // The words of a slot.
+    pub(crate) fn slot_words(self) -> usize
+        ensures value { result ≡ width self.n }
+        ensures bounds { (0 < result) × (result ≤ 16) }
+    {
+        1 << self.n.saturating_sub(WORD_SWITCHES)
+    }
+
+    // How many slots go into so many words.
+    pub(crate) fn capacity(self, words: usize) -> u32
+        ensures { result ≡ slots words self.n }
+    {
+        (words.saturating_sub(HEADER) / self.slot_words()).min(MAX_CAPACITY) as u32
+    }
+
+    // A word of the slot that has every configuration: bits that stand for none are 0.
+    pub(crate) fn full_word(self) -> u64
+        ensures { result ≡ full self.n }
+    {
+        u64::MAX >> (WORD_BITS - (1u32 << self.n).min(WORD_BITS))
+    }
+
+    // Where slot `j` begins.
+    pub(crate) fn start(self, j: u32) -> usize
+        ensures { result ≡ start self.n j }
+    {
+        HEADER + j as usize * self.slot_words()
     }
 }
 
-// Word `t` of slot `j`.
-pub(crate) fn slot_word(words: &[u64], n: u32, j: u32, t: usize) -> u64
-    requires few { n ≤ 10 }
-    requires held { Held n words.now }
-    requires place { (j < slice_index words.now 1) × (t < width n) }
-    ensures value { result ≡ slice_index words.now (start n j + t) }
-    ensures unused { result < 2 ^ used n }
-{
-    words[start(n, j) + t]
+// The slots that are held, to be read. They are there too while the next one is being written.
+#[derive(Clone, Copy)]
+pub(crate) struct Slots<'a> {
+    pub(crate) words: &'a [u64],
+    pub(crate) switches: Switches,
+    ghost held: { Held switches.n words.now },
 }
 
-// The lowest configuration in slot `j`, if any.
-pub(crate) fn lowest(words: &[u64], n: u32, j: u32) -> Option<u32>
-    requires few { n ≤ 10 }
-    requires held { Held n words.now }
-    requires place { j < slice_index words.now 1 }
-    ensures { LowestIf (slot n words.now j) result }
-{
-    for t in 0..slot_words(n) {
-        let word = slot_word(words, n, j, t);
-        if word != 0 {
-            return Some(t as u32 * WORD_BITS + word.trailing_zeros());
+impl Slots<'_> {
+    // Word `t` of slot `j`.
+    pub(crate) fn word(&self, j: u32, t: usize) -> u64
+        requires { (j < slice_index self.now.words.now 1) × (t < width self.now.switches.n) }
+        ensures value { result ≡ slice_index self.now.words.now (start self.now.switches.n j + t) }
+        ensures unused { result < 2 ^ used self.now.switches.n }
+    {
+        self.words[self.switches.start(j) + t]
+    }
+
+    // The lowest configuration in slot `j`, if any.
+    pub(crate) fn lowest(&self, j: u32) -> Option<u32>
+        requires { j < slice_index self.now.words.now 1 }
+        ensures { LowestIf (slot self.now.switches.n self.now.words.now j) result }
+    {
+        for t in 0..self.switches.slot_words() {
+            let word = self.word(j, t);
+            if word != 0 {
+                return Some(t as u32 * WORD_BITS + word.trailing_zeros());
+            }
         }
+        None
     }
-    None
 }

@@ -2,64 +2,98 @@
 // Promises: all that a store promises, and every word after making, an operation, a refusal and a release.
 #![tactic(auto)]
 
-ghost use Rattle.std.specs.Prelude.{◌<◌};
-ghost use Rattle.bitmaps.specs.Meaning.{means, Valid, one};
-ghost use Rattle.bitmaps.specs.Making.{Prepared};
-ghost use Rattle.bitmaps.specs.Stores.{rollback, Made};
-ghost use Rattle.bitmaps.specs.Laws.{means_consistent, one_bound, rollback_is_lawful};
+ghost use Rattle.bitmaps.specs.Meaning.{Valid};
 
+mod cutting;
 pub mod layout;
+mod making;
 mod operation;
 
-use layout::{
-    COUNT_WORD, EMPTY_SLOT, FLOOR, FULL_SLOT, MAX_SWITCHES, N_WORD, WORD_BITS, capacity, fill,
-    full_word, lowest, slot_word, start,
-};
+use cutting::cut_slots;
+use layout::{COUNT_WORD, EMPTY_SLOT, FLOOR, FULL_SLOT, N_WORD, Slots, Switches, WORD_BITS};
 use operation::Operation;
 use stores::Store;
+use stores::connective::Connective;
 use stores::fault::StoreFault;
+use stores::in_words::InWords;
 
 #[derive(Drop)]
 pub struct Bitmaps<'a> {
     words: &'a mut [u64],
+    ghost valid: { Valid words.now },
 }
 
-// Writes a new store of `n` switches into the words, or leaves them as they were.
-pub fn prepare(words: &mut [u64], n: u32) -> Result<(), StoreFault>
-    ensures { Prepared words.old words.new n result }
-{
-    if n > MAX_SWITCHES {
-        return Err(StoreFault::TooManySwitches);
-    }
-    let slots = capacity(words.len(), n);
-    if slots < FLOOR {
-        return Err(StoreFault::TooSmall);
-    }
-    fill(words, 0, start(n, slots), 0);
-    fill(words, start(n, FULL_SLOT), start(n, FLOOR), full_word(n));
-    words[N_WORD] = n as u64;
-    words[COUNT_WORD] = FLOOR as u64;
-    Ok(())
-}
+impl Bitmaps<'_> {
+    ghost use Rattle.std.specs.Prelude.{◌≡◌, slice_index};
+    ghost use Rattle.stores.specs.Outcome.{Outcome, refusal};
+    ghost use Rattle.bitmaps.specs.Meaning.{means, one};
+    ghost use Rattle.bitmaps.specs.Operations.{op_of};
+    ghost use Rattle.bitmaps.specs.Stores.{rollback};
 
-// A new store of `n` switches in the words.
-pub fn make<'a>(words: &'a mut [u64], n: u32) -> Result<Bitmaps<'a>, StoreFault>
-    ensures { Made words.old n result }
-{
-    prepare(words, n)?;
-    Ok(Bitmaps { words })
+    // The slots that are held.
+    fn slots(&self) -> Slots<'_>
+        ensures words { result.words.now ≡ self.now.words.now }
+        ensures switches { result.switches.n ≡ slice_index self.now.words.now 0 }
+    {
+        let switches = Switches {
+            n: self.words[N_WORD] as u32,
+        };
+        Slots {
+            words: self.words,
+            switches,
+        }
+    }
+
+    // The first refusal due to an operation, by rising number.
+    fn due(&self, operation: Operation) -> Option<StoreFault>
+        ensures { result ≡ refusal (means self.now.words.now) 1 (op_of operation) }
+    {
+        let switches = self.slots().switches;
+        let count = self.len();
+        match operation {
+            Operation::Switch(i) => {
+                if i >= switches.n {
+                    return Some(StoreFault::NoSwitch);
+                }
+            }
+            Operation::Join(_, a, b) => {
+                if a >= count || b >= count {
+                    return Some(StoreFault::NoNumber);
+                }
+            }
+        }
+        if count >= switches.capacity(self.words.len()) {
+            return Some(StoreFault::Full);
+        }
+        None
+    }
+
+    // Appends the set that an operation works out and answers its number, or changes nothing.
+    fn apply(&mut self, operation: Operation) -> Result<u32, StoreFault>
+        ensures { Outcome (λ s. means s.words.now) rollback (λ _. one) self.old self.new (op_of operation) result }
+    {
+        if let Some(fault) = self.due(operation) {
+            return Err(fault);
+        }
+        let number = self.len();
+        operation.append(self.words);
+        Ok(number)
+    }
 }
 
 impl<'a> Store for Bitmaps<'a> {
-    ghost valid = { λ s. Valid s.words.now };
+    ghost use Rattle.bitmaps.specs.Meaning.{means, one};
+    ghost use Rattle.bitmaps.specs.Cutting.{means_consistent, one_bound};
+    ghost use Rattle.bitmaps.specs.Stores.{rollback};
+    ghost use Rattle.bitmaps.specs.Laws.{rollback_is_lawful};
 
     ghost model = { λ s. means s.words.now };
 
     ghost need = { λ s op. one op };
 
-    ghost consistent = { λ s v. means_consistent s.words.now v };
+    ghost consistent = { λ s. means_consistent s.words.now s.valid };
 
-    ghost need_bound = { λ s v op. one_bound s.words.now op };
+    ghost need_bound = { λ s op. one_bound s.words.now op };
 
     ghost rollback = { rollback };
 
@@ -74,7 +108,7 @@ impl<'a> Store for Bitmaps<'a> {
     }
 
     fn switches(&self) -> u32 {
-        self.words[N_WORD] as u32
+        self.slots().switches.n
     }
 
     fn len(&self) -> u32 {
@@ -82,30 +116,22 @@ impl<'a> Store for Bitmaps<'a> {
     }
 
     fn switch(&mut self, i: u32) -> Result<u32, StoreFault> {
-        Operation::Switch(i).apply(self.words)
+        self.apply(Operation::Switch(i))
     }
 
-    fn both(&mut self, a: u32, b: u32) -> Result<u32, StoreFault> {
-        Operation::Both(a, b).apply(self.words)
-    }
-
-    fn either(&mut self, a: u32, b: u32) -> Result<u32, StoreFault> {
-        Operation::Either(a, b).apply(self.words)
-    }
-
-    fn less(&mut self, a: u32, b: u32) -> Result<u32, StoreFault> {
-        Operation::Less(a, b).apply(self.words)
+    fn join(&mut self, how: Connective, a: u32, b: u32) -> Result<u32, StoreFault> {
+        self.apply(Operation::Join(how, a, b))
     }
 
     fn holds(&self, a: u32, k: u32) -> Result<bool, StoreFault> {
         if a >= self.len() {
             return Err(StoreFault::NoNumber);
         }
-        let n = self.switches();
-        if k >= 1 << n {
+        let slots = self.slots();
+        if k >= 1 << slots.switches.n {
             return Err(StoreFault::NoConfiguration);
         }
-        let word = slot_word(self.words, n, a, (k / WORD_BITS) as usize);
+        let word = slots.word(a, (k / WORD_BITS) as usize);
         Ok((word >> (k % WORD_BITS)) % 2 == 1)
     }
 
@@ -114,17 +140,40 @@ impl<'a> Store for Bitmaps<'a> {
         if a >= held {
             return Err(StoreFault::NoNumber);
         }
-        Ok(lowest(self.words, self.switches(), a))
+        Ok(self.slots().lowest(a))
     }
 
     fn cut(&mut self, to: u32) {
-        let count = self.len();
         let kept = to.max(FLOOR);
-        if kept >= count {
-            return;
+        if kept < self.len() {
+            cut_slots(self.words, kept);
         }
-        let n = self.switches();
-        fill(self.words, start(n, kept), start(n, count), 0);
-        self.words[COUNT_WORD] = kept as u64;
+    }
+}
+
+impl<'a> InWords<'a> for Bitmaps<'a> {
+    ghost use Rattle.stores.specs.Making.{Prepared, Made};
+    ghost use Rattle.bitmaps.specs.Meaning.{means};
+    ghost use Rattle.bitmaps.specs.Making.{due, room, renewed};
+
+    type Word = u64;
+
+    ghost lies_in = { λ s. s.words.now };
+
+    ghost due = { due };
+
+    ghost room = { room };
+
+    ghost renewed = { renewed };
+
+    fn prepare(words: &mut [u64], n: u32) -> Result<(), StoreFault>
+        ensures { Prepared due renewed words.old n words.new result }
+    {
+        making::prepare(words, n)
+    }
+
+    fn make(words: &'a mut [u64], n: u32) -> Result<Bitmaps<'a>, StoreFault> {
+        making::prepare(words, n)?;
+        Ok(Bitmaps { words })
     }
 }

@@ -1,15 +1,13 @@
-// The operations that append a set: which refusal is due, and the words of the new slot.
-ghost use Rattle.std.specs.Prelude.{◌≡◌, ℕ, ◌+◌, ◌*◌, ◌<◌, ◌≤◌, length, slice_index};
+// The operations that append a set: the words of the new slot.
+ghost use Rattle.std.specs.Prelude.{◌≡◌, ℕ, ◌+◌, ◌*◌, ◌^◌, ◌<◌, length, None, slice_index};
 ghost use Rattle.stores.specs.Sets.{on};
-ghost use Rattle.stores.specs.Outcome.{Outcome, refusal};
+ghost use Rattle.stores.specs.Outcome.{Accepted, refusal};
 ghost use Rattle.bitmaps.specs.Layout.{width, slots};
-ghost use Rattle.bitmaps.specs.Meaning.{means, Valid, Held, one, cut_words};
-ghost use Rattle.bitmaps.specs.Operations.{op_of, Operands, NewWord, Written};
+ghost use Rattle.bitmaps.specs.Meaning.{means, Valid, one, cut_words};
+ghost use Rattle.bitmaps.specs.Operations.{op_of, Operands, connected, NewWord, Written};
 
-use super::layout::{
-    COUNT_WORD, FULL_SLOT, N_WORD, WORD_SWITCHES, capacity, slot_word, slot_words, start,
-};
-use stores::fault::StoreFault;
+use super::layout::{COUNT_WORD, FULL_SLOT, N_WORD, Slots, Switches, WORD_SWITCHES};
+use stores::connective::Connective;
 
 // Each word of the configurations that have switch `i` on, for the switches that tell the bits of a word apart.
 const PATTERNS: [u64; 6] = [
@@ -25,9 +23,7 @@ const PATTERNS: [u64; 6] = [
 #[derive(Clone, Copy)]
 pub(crate) enum Operation {
     Switch(u32),
-    Both(u32, u32),
-    Either(u32, u32),
-    Less(u32, u32),
+    Join(Connective, u32, u32),
 }
 
 // Word `t` of the configurations that have switch `i` on.
@@ -44,45 +40,28 @@ fn switch_word(i: u32, t: usize) -> u64
     }
 }
 
-impl Operation {
-    // The first refusal due, by rising number.
-    fn due(self, words: &[u64]) -> Option<StoreFault>
-        requires { Valid words.now }
-        ensures { result ≡ refusal (means words.now) 1 (op_of self) }
-    {
-        let n = words[N_WORD] as u32;
-        let count = words[COUNT_WORD] as u32;
-        match self {
-            Operation::Switch(i) => {
-                if i >= n {
-                    return Some(StoreFault::NoSwitch);
-                }
-            }
-            Operation::Both(a, b) | Operation::Either(a, b) | Operation::Less(a, b) => {
-                if a >= count || b >= count {
-                    return Some(StoreFault::NoNumber);
-                }
-            }
-        }
-        if count >= capacity(words.len(), n) {
-            return Some(StoreFault::Full);
-        }
-        None
+// A word of the set that is made of two, from a word of each.
+fn joined_word(how: Connective, a: u64, b: u64) -> u64
+    ensures bits { (p : ℕ) → p < 64 → on p result ≡ connected how (on p a) (on p b) }
+    ensures unused { (m : ℕ) → a < 2 ^ m → b < 2 ^ m → result < 2 ^ m }
+{
+    match how {
+        Connective::Both => a & b,
+        Connective::Either => a | b,
+        Connective::Less => a & !b,
     }
+}
 
+impl Operation {
     // Word `t` of the set that is worked out.
-    fn word(self, words: &[u64], n: u32, t: usize) -> u64
-        requires few { n ≤ 10 }
-        requires held { Held n words.now }
-        requires operands { Operands n (slice_index words.now 1) self }
-        requires place { t < width n }
-        ensures { NewWord n words.now self t result }
+    fn word(self, slots: &Slots<'_>, t: usize) -> u64
+        requires operands { Operands slots.now.switches.n (slice_index slots.now.words.now 1) self }
+        requires place { t < width slots.now.switches.n }
+        ensures { NewWord slots.now.switches.n slots.now.words.now self t result }
     {
         match self {
-            Operation::Switch(i) => slot_word(words, n, FULL_SLOT, t) & switch_word(i, t),
-            Operation::Both(a, b) => slot_word(words, n, a, t) & slot_word(words, n, b, t),
-            Operation::Either(a, b) => slot_word(words, n, a, t) | slot_word(words, n, b, t),
-            Operation::Less(a, b) => slot_word(words, n, a, t) & !slot_word(words, n, b, t),
+            Operation::Switch(i) => slots.word(FULL_SLOT, t) & switch_word(i, t),
+            Operation::Join(how, a, b) => joined_word(how, slots.word(a, t), slots.word(b, t)),
         }
     }
 
@@ -93,26 +72,25 @@ impl Operation {
         requires room { slice_index words.old 1 < slots (length words.old) (slice_index words.old 0) }
         ensures { Written (slice_index words.old 0) (slice_index words.old 1) self words.old words.new }
     {
-        let n = words[N_WORD] as u32;
-        let to = start(n, words[COUNT_WORD] as u32);
-        for t in 0..slot_words(n) {
-            let word = self.word(words, n, t);
+        let switches = Switches {
+            n: words[N_WORD] as u32,
+        };
+        let to = switches.start(words[COUNT_WORD] as u32);
+        // an index, since a word at the same place of each operand's slot makes the new one
+        for t in 0..switches.slot_words() {
+            let word = self.word(&Slots { words, switches }, t);
             words[to + t] = word;
         }
     }
 
-    // Appends that set and answers its number, or leaves the words as they were.
-    pub(crate) fn apply(self, words: &mut [u64]) -> Result<u32, StoreFault>
-        requires { Valid words.old }
+    // Appends that set, where no refusal is due.
+    pub(crate) fn append(self, words: &mut [u64])
+        requires valid { Valid words.old }
+        requires due { refusal (means words.old) 1 (op_of self) ≡ None }
         ensures valid { Valid words.new }
-        ensures outcome { Outcome means cut_words (λ _. one) words.old words.new (op_of self) result }
+        ensures accepted { Accepted means cut_words words.old words.new 1 (op_of self) (slice_index words.old 1) }
     {
-        if let Some(fault) = self.due(words) {
-            return Err(fault);
-        }
-        let count = words[COUNT_WORD];
         self.write(words);
-        words[COUNT_WORD] = count + 1;
-        Ok(count as u32)
+        words[COUNT_WORD] += 1;
     }
 }

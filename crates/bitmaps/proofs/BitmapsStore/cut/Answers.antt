@@ -1,30 +1,23 @@
-use Rattle.std.proofs.Common.{set, arith}
-use Rattle.bitmaps.proofs.Cuts.{cut_back_of, cut_all, cut_range, cut_valid, cut_some}
+use Rattle.std.proofs.Common.{sym, subst, arith}
+use Rattle.bitmaps.specs.Meaning.{Valid}
+use Rattle.bitmaps.specs.Cutting.{size_means, valid_cut}
+use Rattle.bitmaps.proofs.Cuts.{cut_all, cut_some}
 use Rattle.bitmaps.proofs.BitmapsStore.cut.Goals as goal
 
-pub returns-then-kept-count : goal.returns-then-kept-count
-returns-then-kept-count c =
-    let s = c.args.self.now in
-    let ws = s.words.now in
-    record { valid = c.requires; cut = cut_back_of s ws c.args.to (cut_all ws c.requires c.args.to (omega (arith, c.if-kept-count.true, c.max-kept.ensures, c.len-count.ensures))) }
+pub cut_slots-requires-clause-kept : goal.cut_slots-requires-clause-kept
+cut_slots-requires-clause-kept c = (omega (arith, c.max-kept.ensures), omega (arith, c.if-kept-len.true, c.len.ensures, size_means c.args.self.now.words.now))
 
-pub fill-requires : goal.fill-requires
-fill-requires c =
-    cut_range c.args.self.now.words.now c.requires c.args.to c.switches-n.result c.len-count.result c.max-kept.result c.start.result c.start-2.result
-    c.switches-n.ensures c.len-count.ensures c.max-kept.ensures c.if-kept-count.false c.start.ensures c.start-2.ensures
-
-pub returns : goal.returns
-returns c =
+pub invariant_of-self : goal.invariant_of-self
+invariant_of-self c =
     let s = c.args.self.now in
-    let ws = s.words.now in
-    let ws₁ = c.fill.new.words in
-    let k = c.max-kept.result in
     record {
-      valid =
-          cut_valid ws c.requires c.args.to c.switches-n.result c.len-count.result k c.start.result c.start-2.result c.switches-n.ensures c.len-count.ensures c.max-kept.ensures
-          c.if-kept-count.false c.start.ensures c.start-2.ensures ws₁ c.fill.auto.words c.fill.ensures.made c.fill.ensures.before c.fill.ensures.after;
-      cut =
-          cut_back_of s (set ws₁ 1 k) c.args.to
-          (cut_some ws c.requires c.args.to c.switches-n.result c.len-count.result k c.start.result c.start-2.result c.switches-n.ensures c.len-count.ensures c.max-kept.ensures
-          c.if-kept-count.false c.start.ensures c.start-2.ensures ws₁ c.fill.auto.words c.fill.ensures.made c.fill.ensures.before c.fill.ensures.after);
+      valid = subst Valid (sym c.cut_slots.ensures)
+          (valid_cut s.words.now s.valid c.max-kept.result (omega (arith, c.max-kept.ensures)) (omega (arith, c.if-kept-len.true, c.len.ensures, size_means s.words.now)));
     }
+
+pub returns-then-kept-len : goal.returns-then-kept-len
+returns-then-kept-len c =
+    cut_some c.args.self.now c.cut_slots.new.words _ c.args.to c.max-kept.result c.max-kept.ensures (omega (arith, c.if-kept-len.true, c.len.ensures)) c.cut_slots.ensures
+
+pub returns-else-kept-len : goal.returns-else-kept-len
+returns-else-kept-len c = cut_all c.args.self.now c.args.to (omega (arith, c.if-kept-len.false, c.max-kept.ensures, c.len.ensures))

@@ -1,5 +1,5 @@
 use Rattle.std.proofs.Common.{sym}
-use Rattle.bitmaps.specs.Laws.{size_means}
+use Rattle.bitmaps.specs.Cutting.{size_means}
 use Rattle.bitmaps.proofs.BitmapsStore.len.Goals as goal
 
 pub returns : goal.returns

@@ -1,5 +1,5 @@
 use Rattle.std.proofs.Common.{get_or, arith}
-use Rattle.bitmaps.proofs.Writes.{part_none, part_held, part_operands, part_more, part_written, place_within}
+use Rattle.bitmaps.proofs.Writes.{part_none, part_operands, part_more, part_written, place_within}
 use Rattle.bitmaps.proofs.operation.Operation.write.Goals as goal
 
 pub loop-t-init : goal.loop-t-init
@@ -9,8 +9,6 @@ pub word-word-requires : goal.word-word-requires
 word-word-requires c =
     let ws = c.args.words.now in
     record {
-      few = c.requires.valid.few;
-      held = part_held c.args.self ws c.loop-t.words c.start-to.result c.loop-t.t c.requires.valid c.loop-t.auto.words c.start-to.ensures c.requires.operands c.requires.room c.loop-t.invariant;
       operands = part_operands c.args.self ws c.loop-t.words c.start-to.result c.loop-t.t c.requires.valid c.loop-t.auto.words c.start-to.ensures c.requires.operands c.requires.room c.loop-t.invariant;
       place = omega (arith, c.loop-t-test.true, c.slot_words-t-end.ensures.value);
     }

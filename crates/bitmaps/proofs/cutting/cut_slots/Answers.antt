@@ -1,0 +1,16 @@
+use Rattle.std.proofs.Common.{ℕ, set, ap, ◌∙◌, arith}
+use Rattle.bitmaps.proofs.Cuts.{cut_range, written_cut}
+use Rattle.bitmaps.proofs.cutting.cut_slots.Goals as goal
+
+pub fill-requires : goal.fill-requires
+fill-requires c =
+    let p = cut_range c.args.words.now c.requires.valid c.args.kept (omega (arith, c.requires.kept.1)) in
+    (omega (arith, c.start.ensures, c.start-2.ensures, p.0), omega (arith, c.start-2.ensures, p.1))
+
+pub returns : goal.returns
+returns c =
+    ap (λ (k : ℕ). set c.fill.new.words 1 k) c.from.ensures
+    ∙ written_cut c.args.words.now c.fill.new.words c.requires.valid c.args.kept (omega (arith, c.requires.kept.1)) c.fill.auto.words
+    (λ i lo hi. c.fill.ensures.made i (omega (arith, lo, c.start.ensures)) (omega (arith, hi, c.start-2.ensures)))
+    (λ i h. c.fill.ensures.before i (omega (arith, h, c.start.ensures)))
+    (λ i h. c.fill.ensures.after i (omega (arith, h, c.start-2.ensures)))
