@@ -79,7 +79,7 @@ ends_latest_none : (h : ℕ) → latest ends h 0 ≡ 0
 unfolding latest
 ends_latest_none h = refl
 
-pub new_store : (ws ws₁ ws₂ : List ℕ) (n : ℕ) → n ≤ 24 → 1098 ≤ length ws → length ws₁ ≡ length ws → Wiped ws ws₁ → ws₂ ≡ begun ws₁ n → New ws ws₂ n
+pub new_store : (ws ws₁ ws₂ : List ℕ) (n : ℕ) → n ≤ 24 → 1098 ≤ length ws → length ws₁ ≡ length ws → Wiped ws ws₁ → ws₂ ≡ begun ws₁ n → New ws n ws₂
 new_store ws ws₁ ws₂ n hn room len₁ w e =
     let p : Placed ws₁ ws₂ n = subst (λ (v : List ℕ). Placed ws₁ v n) (sym e) (set_places ws₁ n (omega arith)) in
     let len₂ = p.len in

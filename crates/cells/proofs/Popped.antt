@@ -1,10 +1,10 @@
 -- Taking the last cell away, and cutting.
-use Rattle.std.proofs.Common.{◌≡◌, ℕ, suc, ◌+◌, ◌-◌, ◌*◌, ◌<◌, ◌≤◌, ◌≢◌, ◌⊎◌, List, length, get_or, take, set, sym, refl, ap, ◌∙◌, subst, inl, inr, ⊎_elim, arith}
+use Rattle.std.proofs.Common.{◌≡◌, ℕ, zero, suc, ◌+◌, ◌-◌, ◌*◌, ◌/◌, ◌<◌, ◌≤◌, min, ◌≢◌, ◌⊎◌, List, length, get_or, take, set, sym, refl, ap, ◌∙◌, subst, inl, inr, ⊎_elim, arith}
 use Rattle.std.proofs.lemmas.Nat.{mod_below}
 use Rattle.std.proofs.lemmas.List.{length-set, get_or-set_same, get_or-set_other, length-take-le, get_or-take}
 use Rattle.std.proofs.lemmas.Bool.{cases_lt, cases_eq}
 use Rattle.cells.specs.Cells.{Cell, at, level, Ordered, Reduced, Grows}
-use Rattle.cells.specs.Words.{switches, count, cell_at, next_at, cells_of, chain_of, latest, Lies, WellFormed, popped, Cut}
+use Rattle.cells.specs.Words.{switches, count, cell_at, next_at, cells_of, chain_of, latest, Lies, WellFormed, Valid, popped, Cut}
 use Rattle.cells.proofs.Grow.{grows_refl, grows_trans, level_kept}
 use Rattle.cells.proofs.Pushed.{latest_kept, latest_same}
 use Rattle.cells.proofs.Chained.{cells_of_laid, length_cells}
@@ -177,4 +177,28 @@ cut_more ws ws₁ ws₂ m x two p =
           (λ (b : 1090 + 4 * m ≤ i). p.other i (λ e. omega arith) (λ e. omega arith) (inr (omega arith)) ∙ x.cleared i b hi)
           (cases_lt i (1090 + 4 * m));
       beyond = λ i h. p.other i (λ e. omega arith) (λ e. omega arith) (inr (omega arith)) ∙ x.beyond i h;
+    }
+
+-- words can be cut to any number of cells from two on
+pub cut_down : (ws : List ℕ) → WellFormed ws → (d : ℕ) → d + 2 ≤ count ws → (ws' : List ℕ) × (length ws' ≡ length ws) × Cut ws ws' (count ws - d)
+cut_down ws s zero h = let e : count ws ≡ count ws - 0 = omega arith in (ws, refl, subst (Cut ws ws) e (cut_none ws s))
+cut_down ws s (suc d) h =
+    let x = cut_down ws s d (omega arith) in
+    let ws₁ : List ℕ = x.0 in
+    let c : Cut ws ws₁ (count ws - d) = x.2 in
+    let two : 2 < count ws₁ = omega (arith, c.count_is, h) in
+    let p : Less ws₁ (popped ws₁) = popped_places ws₁ two (omega (arith, c.formed.lies.room, c.formed.lies.count_is)) in
+    let e : count ws - d - 1 ≡ count ws - suc d = omega arith in
+    (popped ws₁, p.length_now ∙ x.1, subst (Cut ws (popped ws₁)) e (cut_more ws ws₁ (popped ws₁) (count ws - d) c (omega (arith, h)) p))
+
+-- words between operations are so when they are cut
+pub cut_valid : (ws ws' : List ℕ) (m : ℕ) → Valid ws → length ws' ≡ length ws → Cut ws ws' m → Valid ws'
+cut_valid ws ws' m v len c =
+    record {
+      formed = c.formed;
+      idle = λ i lo hi. c.working i lo hi ∙ v.idle i lo hi;
+      free = λ i lo hi. ⊎_elim
+          (λ (b : i < 1090 + 4 * count ws). c.cleared i (omega (arith, lo, c.count_is)) b)
+          (λ (b : 1090 + 4 * count ws ≤ i). c.beyond i b ∙ v.free i b (omega (arith, hi, ap (λ (n : ℕ). min 65535 ((n - 1090) / 4)) len)))
+          (cases_lt i (1090 + 4 * count ws));
     }

@@ -5,10 +5,11 @@ use Rattle.std.proofs.lemmas.List.FromFn.{length-map-range_with_len, get_or-map-
 use Rattle.std.proofs.lemmas.List.{get_or_past}
 use Rattle.std.proofs.lemmas.Bool.{cases_lt, cases_eq, leb-true, leb-false, ltb-true, ltb-false, eqb-true, eqb-false, lt-leb, le-ltb, ne_eqb, and_cases, and_parts, and_left, and_right, cond-false, cond_both}
 use Rattle.cells.specs.Cells.{Cell, at, Grows}
-use Rattle.cells.specs.Words.{switches, count, cell_at, next_at, cells_of, chain_of, latest, capacity, Valid}
+use Rattle.cells.specs.Words.{switches, count, cell_at, next_at, cells_of, chain_of, latest, capacity, Valid, Cut}
 use Rattle.cells.specs.Rolling.{first_cells, rolled_word, rolled}
 use Rattle.cells.proofs.Chained.{length_cells, at_cells}
 use Rattle.cells.proofs.Pushed.{latest_kept}
+use Rattle.cells.proofs.Popped.{cut_down, cut_valid}
 
 cond_same : {A : Type 0} (b : Bool) (x y z : A) → (b ≡ false → y ≡ z) → cond b x y ≡ cond b x z
 cond_same true x y z h = refl
@@ -36,6 +37,9 @@ length_rolled ws k = length-map-range_with_len (rolled_word ws k) 0 (length ws)
 
 get_or_rolled : (ws : List ℕ) (k i : ℕ) → i < length ws → get_or (rolled ws k) i 0 ≡ rolled_word ws k i
 get_or_rolled ws k i h = get_or-map-range_with_len (rolled_word ws k) 0 (length ws) i i 0 h (omega arith)
+
+pub count_rolled : (ws : List ℕ) (k : ℕ) → 2 ≤ length ws → count (rolled ws k) ≡ k
+count_rolled ws k h = get_or_rolled ws k 1 (omega arith)
 
 -- a word that is neither the count, nor a chain head, nor of a cell taken off
 plain : (ws : List ℕ) (k i : ℕ) → (i ≡ 1 → ⊥) → (i < 2) ⊎ (66 ≤ i) → (i < 1090 + 4 * k) ⊎ (1090 + 4 * capacity ws ≤ i)
@@ -157,3 +161,20 @@ module _ (ws ws' : List ℕ) (v : Valid ws) (v' : Valid ws') (len : length ws' �
   rolled_back =
       ap (λ (m : ℕ). map (rolled_word ws' (count ws)) (range_with_len 0 m)) len
       ∙ sym (fill_by_all (rolled_word ws' (count ws)) ws (length ws) 0 refl (λ i h. sym (word i)))
+
+-- a cut is what the cells taken off leave
+pub rolled_cut : (ws ws' : List ℕ) (m : ℕ) → Valid ws → length ws' ≡ length ws → Cut ws ws' m → rolled ws m ≡ ws'
+rolled_cut ws ws' m v len c =
+    let fits : count ws ≤ capacity ws = omega (arith, v.formed.lies.few, v.formed.lies.room, v.formed.lies.count_is) in
+    let same : capacity ws' ≡ capacity ws = ap (λ (n : ℕ). min 65535 ((n - 1090) / 4)) len in
+    ap (rolled ws) (sym c.count_is)
+    ∙ rolled_back ws' ws (cut_valid ws ws' m v len c) v (sym len) (sym c.switches_same) c.fewer
+    (λ i h. sym (c.beyond i (omega (arith, h, fits, same))))
+
+-- words between operations are so with cells taken off, but the first two
+pub valid_rolled : (ws : List ℕ) → Valid ws → (m : ℕ) → 2 ≤ m → m ≤ count ws → Valid (rolled ws m)
+valid_rolled ws v m two h =
+    let x = cut_down ws v.formed (count ws - m) (omega (arith, two, h)) in
+    let e : count ws - (count ws - m) ≡ m = omega (arith, h) in
+    let c : Cut ws x.0 m = subst (Cut ws x.0) e x.2 in
+    subst Valid (sym (rolled_cut ws x.0 m v x.1 c)) (cut_valid ws x.0 m v x.1 c)

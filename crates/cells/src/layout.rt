@@ -2,9 +2,6 @@
 ghost use Rattle.std.specs.Prelude.{◌≡◌, ◌≤◌, length};
 ghost use Rattle.cells.specs.Words.{chain_of, capacity};
 
-// The most switches that a diagram store admits.
-pub const MAX_SWITCHES: u32 = 24;
-
 // The most cells that are used, however many words there are: two numbers then go into one word.
 pub const MAX_CAPACITY: usize = 65_535;
 
@@ -59,10 +56,5 @@ pub(crate) fn room(words: &[u32]) -> u32
     requires { 1090 ≤ length words.now }
     ensures { result ≡ capacity words.now }
 {
-    let cells = (words.len() - CELLS) / CELL_WORDS;
-    if cells < MAX_CAPACITY {
-        cells as u32
-    } else {
-        MAX_CAPACITY as u32
-    }
+    ((words.len() - CELLS) / CELL_WORDS).min(MAX_CAPACITY) as u32
 }

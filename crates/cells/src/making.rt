@@ -1,10 +1,12 @@
 // Making a store in words that are handed in.
 ghost use Rattle.std.specs.Prelude.{◌≤◌, length};
-ghost use Rattle.cells.specs.Words.{Wiped, Prepared};
+ghost use Rattle.stores.specs.Making.{Prepared};
+ghost use Rattle.cells.specs.Words.{Wiped, New, due};
 
 use super::layout::{
-    ALL, CELL_WORDS, CELLS, COUNT_WORD, FLOOR, HIGH, LOW, MAX_SWITCHES, N_WORD, NO_SWITCH, room,
+    ALL, CELL_WORDS, CELLS, COUNT_WORD, FLOOR, HIGH, LOW, N_WORD, NO_SWITCH, room,
 };
+use stores::MAX_SWITCHES;
 use stores::fault::StoreFault;
 
 // The words of a store with no more than the two cells that every store has.
@@ -16,16 +18,14 @@ pub(crate) fn wipe(words: &mut [u32])
     ensures { Wiped words.old words.new }
 {
     let end = CELLS + CELL_WORDS * room(words) as usize;
-    for i in 0..end {
-        words[i] = 0;
-    }
+    words[..end].fill(0);
 }
 
 // Writes a new store of `n` switches into the words, or leaves them as they were.
 pub fn prepare(words: &mut [u32], n: u32) -> Result<(), StoreFault>
-    ensures { Prepared words.old words.new n result }
+    ensures { Prepared due New words.old n words.new result }
 {
-    if n > MAX_SWITCHES {
+    if n as usize > MAX_SWITCHES {
         return Err(StoreFault::TooManySwitches);
     }
     if words.len() < FEWEST_WORDS {

@@ -1,8 +1,7 @@
 -- Stores that grow and are cut.
-use Rattle.std.proofs.Common.{◌≡◌, ℕ, ◌+◌, ◌-◌, ◌*◌, ◌/◌, ◌^◌, ◌<◌, ◌≤◌, min, max, ◌&&◌, ltb, List, map, length, take, sym, refl, ap, ◌∙◌, subst, ⊎_elim, arith}
+use Rattle.std.proofs.Common.{◌≡◌, ℕ, ◌-◌, ◌/◌, ◌^◌, ◌<◌, ◌≤◌, min, max, ◌&&◌, ltb, List, map, length, take, sym, refl, ap, ◌∙◌, subst, arith}
 use Rattle.std.specs.List.{range_with_len}
 use Rattle.std.proofs.lemmas.List.FromFn.{length-map-range_with_len, get_or-map-range_with_len, take-map-range_with_len, fill_by_all}
-use Rattle.std.proofs.lemmas.Bool.{cases_lt}
 use Rattle.stores.specs.Sets.{Set, empty}
 use Rattle.stores.specs.Model.{Model, Appended, kept}
 use Rattle.stores.specs.Outcome.{CutBack}
@@ -12,10 +11,11 @@ use Rattle.cells.specs.Rolling.{rolled}
 use Rattle.cells.proofs.Chained.{length_cells}
 use Rattle.cells.proofs.Grow.{walk_kept}
 use Rattle.cells.proofs.Popped.{cut_none}
-use Rattle.cells.proofs.Rolling.{rolled_back}
+use Rattle.cells.proofs.Rolling.{rolled_cut}
 use Rattle.diagrams.specs.Meaning.{cell_set, model_of, means}
+use Rattle.diagrams.specs.Cutting.{size_means}
 use Rattle.diagrams.specs.Stores.{with_words, rollback}
-use Rattle.diagrams.specs.Laws.{size_means, count_fits}
+use Rattle.diagrams.specs.Laws.{same_words}
 use Rattle.diagrams.specs.declared.Diagrams.{Diagrams}
 
 sets_same : (f g : ℕ → Set) (c : ℕ) → ((j : ℕ) → j < c → f j ≡ g j) → map f (range_with_len 0 c) ≡ map g (range_with_len 0 c)
@@ -53,45 +53,27 @@ module _ (ws ws' : List ℕ) (v : Valid ws) (len : length ws' ≡ length ws) (n 
       })
 
 -- what a cut leaves
-module _ (ws ws' : List ℕ) (m : ℕ) (v : Valid ws) (len : length ws' ≡ length ws) (c : Cut ws ws' m) where
-  fewer : count ws' ≤ count ws
-  fewer = omega (arith, c.fewer.longer, length_cells ws, length_cells ws')
+module _ (s : Diagrams) (ws' : List ℕ) (v' : Valid ws') (m : ℕ) (len : length ws' ≡ length s.words.now) (c : Cut s.words.now ws' m) where
+  abbrev ws₀ : List ℕ
+  ws₀ = s.words.now
 
-  pub cut_valid : Valid ws'
-  cut_valid =
-      record {
-        formed = c.formed;
-        idle = λ i lo hi. c.working i lo hi ∙ v.idle i lo hi;
-        free = λ i lo hi. ⊎_elim
-            (λ (b : i < 1090 + 4 * count ws). c.cleared i (omega (arith, lo, c.count_is)) b)
-            (λ (b : 1090 + 4 * count ws ≤ i). c.beyond i b ∙ v.free i b (omega (arith, hi, capacity_same ws ws' len)))
-            (cases_lt i (1090 + 4 * count ws));
-      }
+  back : Appended (means ws') (means ws₀) (count ws₀ - count ws')
+  back = grown ws' ws₀ v' (sym len) (sym c.switches_same) c.fewer
 
-  back : Appended (means ws') (means ws) (count ws - count ws')
-  back = grown ws' ws cut_valid (sym len) (sym c.switches_same) c.fewer
-
-  pub cut_back : (to : ℕ) → kept (means ws) to ≡ m → CutBack means rolled ws ws' to
+  pub cut_back : (to : ℕ) → kept (means ws₀) to ≡ m → CutBack (λ (s : Diagrams). means s.words.now) rollback s (with_words s ws' v') to
   cut_back to e =
-      let k : length (means ws').held ≡ kept (means ws) to = size_means ws' ∙ c.count_is ∙ sym e in
-      let fits : count ws ≤ capacity ws = count_fits ws v in
+      let k : length (means ws').held ≡ kept (means ws₀) to = size_means ws' ∙ c.count_is ∙ sym e in
+      let again : kept (means ws₀) (kept (means ws₀) to) ≡ m = omega (arith, e, k, size_means ws', size_means ws₀, length_cells ws', length_cells ws₀, c.fewer.longer) in
       record {
         cut = record {
           same = record { n = sym back.same.n; allowed = sym back.same.allowed; floor = refl; capacity = sym back.same.capacity };
-          held = sym (ap (λ (j : ℕ). take j (means ws).held) (sym k) ∙ back.before);
+          held = sym (ap (λ (j : ℕ). take j (means ws₀).held) (sym k) ∙ back.before);
         };
-        value =
-            sym (rolled_back ws' ws cut_valid v (sym len) (sym c.switches_same) c.fewer
-            (λ i h. sym (c.beyond i (omega (arith, h, fits, capacity_same ws ws' len)))))
-            ∙ ap (rolled ws) (c.count_is ∙ sym e);
+        value = same_words s ws' _ v' _ (sym (ap (rolled ws₀) again ∙ rolled_cut ws₀ ws' m s.valid len c));
       }
 
 -- a release that leaves all sets
-pub cut_all : (ws : List ℕ) → Valid ws → (to : ℕ) → count ws ≤ max to 2 → CutBack means rolled ws ws to
-cut_all ws v to h =
-    cut_back ws ws (count ws) v refl (cut_none ws v.formed) to (omega (arith, size_means ws, h, length_cells ws, v.formed.reduced.two))
-
--- the same of the store as a value
-pub cut_back_of : (s : Diagrams) (ws' : List ℕ) (to : ℕ) → CutBack means rolled s.words.now ws' to
-    → CutBack (λ (s : Diagrams). means s.words.now) rollback s (with_words s ws') to
-cut_back_of s ws' to h = record { cut = h.cut; value = ap (with_words s) h.value }
+pub cut_all : (s : Diagrams) (to : ℕ) → count s.words.now ≤ max to 2 → CutBack (λ (s : Diagrams). means s.words.now) rollback s s to
+cut_all s to h =
+    let ws : List ℕ = s.words.now in
+    cut_back s ws s.valid (count ws) refl (cut_none ws s.valid.formed) to (omega (arith, size_means ws, h, length_cells ws, s.valid.formed.reduced.two))

@@ -1,22 +1,24 @@
 -- What an operation on the cells is to the store.
 use Rattle.std.proofs.Common.{◌≡◌, ℕ, ◌-◌, ◌^◌, ◌<◌, ◌≤◌, Bool, true, false, cond, ◌&&◌, ltb, ◌⊎◌, List, length, Some, None, Ok, Err, Result, sym, refl, ap, ◌∙◌, subst, ap₂, ⊎_elim, arith}
 use Rattle.std.proofs.lemmas.Bool.{cases_lt, lt-ltb, le-ltb, and_from, and_left, and_right}
-use Rattle.stores.specs.Model.{Model, set_at, Appended}
-use Rattle.stores.specs.Outcome.{Op, switch, both, either, less, result, full, numbers, refusal, Outcome}
+use Rattle.stores.specs.Model.{Model, set_at, kept, Appended}
+use Rattle.stores.specs.Joined.{joined}
+use Rattle.stores.specs.Outcome.{Op, switch, result, full, numbers, refusal, Outcome}
 use Rattle.stores.specs.declared.fault.StoreFault.{StoreFault}
 use Rattle.stores.specs.declared.fault.StoreFault.TheVariants.{NoSwitch, NoNumber, Full}
 use Rattle.cells.specs.Cells.{Cell, on, build, joint, Made}
 use Rattle.operations.specs.Ops.{meaning}
 use Rattle.cells.specs.Words.{switches, count, cells_of, capacity, Valid, Accepted, Operated}
-use Rattle.operations.specs.declared.apply.Connective.{Connective}
-use Rattle.operations.specs.declared.apply.Connective.TheVariants.{Both, Either, Less}
+use Rattle.stores.specs.declared.connective.Connective.{Connective}
+use Rattle.stores.specs.declared.connective.Connective.TheVariants.{Both, Either, Less}
 use Rattle.cells.specs.Rolling.{rolled}
 use Rattle.cells.proofs.Build.{build_made, build_ext}
 use Rattle.cells.proofs.Chained.{length_cells}
 use Rattle.cells.proofs.Rolling.{rolled_back}
 use Rattle.diagrams.specs.Meaning.{means, lacking}
+use Rattle.diagrams.specs.Cutting.{size_means, set_inside, set_outside, count_fits, cut_words}
 use Rattle.diagrams.specs.Stores.{with_words, rollback}
-use Rattle.diagrams.specs.Laws.{size_means, set_inside, set_outside, count_fits}
+use Rattle.diagrams.specs.Laws.{same_words}
 use Rattle.diagrams.specs.declared.Diagrams.{Diagrams}
 use Rattle.diagrams.proofs.Growth.{capacity_same, grown}
 
@@ -27,10 +29,13 @@ pub record Asked (ws : List ℕ) (op : Op) (ok : Type 0) (wrong : StoreFault) (f
   pub fine : (need : ℕ) → ok → refusal (means ws) need op ≡ full (means ws) need
   pub bad : (need : ℕ) → (ok → ⊥) → refusal (means ws) need op ≡ Some wrong
 
-module _ (s : Diagrams) (ws' : List ℕ) (op : Op) (ok : Type 0) (wrong : StoreFault) (f : ℕ → Bool) (v : Valid s.words.now)
+module _ (s : Diagrams) (ws' : List ℕ) (v' : Valid ws') (op : Op) (ok : Type 0) (wrong : StoreFault) (f : ℕ → Bool)
     (len : length ws' ≡ length s.words.now) (q : Asked s.words.now op ok wrong f) where
   abbrev ws : List ℕ
   ws = s.words.now
+
+  abbrev v : Valid ws
+  v = s.valid
 
   abbrev N : ℕ
   N = switches ws
@@ -68,8 +73,10 @@ module _ (s : Diagrams) (ws' : List ℕ) (op : Op) (ok : Type 0) (wrong : StoreF
     there : r < count ws'
     there = omega (arith, made.there, length_cells ws')
 
-    undo : rolled ws' (length (means ws).held) ≡ ws
-    undo = ap (rolled ws') (size_means ws) ∙ rolled_back ws ws' v x.store len x.switches_same x.grows x.beyond
+    undo : cut_words ws' (length (means ws).held) ≡ ws
+    undo =
+        let e : kept (means ws') (length (means ws).held) ≡ count ws = omega (arith, size_means ws, size_means ws', longer, length_cells ws, v.formed.reduced.two) in
+        ap (rolled ws') e ∙ rolled_back ws ws' v x.store len x.switches_same x.grows x.beyond
 
     pub answer : (k : ℕ) → set_at (means ws') r k ≡ result (means ws) op k
     answer k = ⊎_elim
@@ -79,20 +86,20 @@ module _ (s : Diagrams) (ws' : List ℕ) (op : Op) (ok : Type 0) (wrong : StoreF
         set_outside ws' r k (subst (λ (n : ℕ). 2 ^ n ≤ k) (sym x.switches_same) le) ∙ sym (q.outside k le))
         (cases_lt k (2 ^ N))
 
-    pub accepted : Outcome (λ (s : Diagrams). means s.words.now) rollback (λ (s : Diagrams) (op : Op). lacking s.words.now op) s (with_words s ws') op (Ok r)
+    pub accepted : Outcome (λ (s : Diagrams). means s.words.now) rollback (λ (s : Diagrams) (op : Op). lacking s.words.now op) s (with_words s ws' v') op (Ok r)
     accepted =
         record {
           due = none_due;
           grown = record {
             appended = subst (λ (n : ℕ). Appended (means ws) (means ws') n) (sym more) (grown ws ws' v len x.switches_same x.grows);
-            undo = ap (with_words s) undo;
+            undo = same_words s _ ws _ v undo;
           };
           within = omega (arith, there, size_means ws');
           set = λ i k. answer k i;
         }
 
   pub refused : (e : StoreFault) → ws' ≡ ws → ((e ≡ wrong) × (ok → ⊥)) ⊎ ((e ≡ Full) × ok × (capacity ws < length (build cs N f).0))
-      → Outcome (λ (s : Diagrams). means s.words.now) rollback (λ (s : Diagrams) (op : Op). lacking s.words.now op) s (with_words s ws') op (Err e)
+      → Outcome (λ (s : Diagrams). means s.words.now) rollback (λ (s : Diagrams) (op : Op). lacking s.words.now op) s (with_words s ws' v') op (Err e)
   refused e same why =
       record {
         due = ⊎_elim
@@ -103,23 +110,13 @@ module _ (s : Diagrams) (ws' : List ℕ) (op : Op) (ok : Type 0) (wrong : StoreF
             (lt-ltb (capacity ws - length (means ws).held) (lacking ws op) (omega (arith, lacks b.1, b.2, size_means ws, length_cells ws, count_fits ws v)))
             ∙ ap (λ (x : StoreFault). Some x) (sym b.0))
             why;
-        same = ap (with_words s) same;
+        same = same_words s ws' ws v' v same;
       }
 
   pub outcome : (r : Result ℕ StoreFault) → Operated ws ws' ok wrong (build cs N f) r
-      → Outcome (λ (s : Diagrams). means s.words.now) rollback (λ (s : Diagrams) (op : Op). lacking s.words.now op) s (with_words s ws') op r
+      → Outcome (λ (s : Diagrams). means s.words.now) rollback (λ (s : Diagrams) (op : Op). lacking s.words.now op) s (with_words s ws' v') op r
   outcome (Ok r) x = accepted x.0 r x.1
   outcome (Err e) x = refused e x.0 x.1
-
-pub operated_valid : (ws ws' : List ℕ) (ok : Type 0) (wrong : StoreFault) (p : List Cell × ℕ) (r : Result ℕ StoreFault) → Valid ws → Operated ws ws' ok wrong p r → Valid ws'
-operated_valid ws ws' ok wrong p (Ok r) v x = x.1.store
-operated_valid ws ws' ok wrong p (Err e) v x = subst Valid (sym x.0) v
-
--- the operation of a connective
-abbrev pub op_at : Connective → ℕ → ℕ → Op
-op_at Both a b = both a b
-op_at Either a b = either a b
-op_at Less a b = less a b
 
 module _ (ws : List ℕ) (o : Connective) (a b : ℕ) where
   abbrev m : Model
@@ -128,12 +125,12 @@ module _ (ws : List ℕ) (o : Connective) (a b : ℕ) where
   abbrev Held : Type 0
   Held = (a < count ws) × (b < count ws)
 
-  result_is : (o : Connective) (k : ℕ) → result m (op_at o a b) k ≡ meaning o (set_at m a k) (set_at m b k)
+  result_is : (o : Connective) (k : ℕ) → result m (joined o a b) k ≡ meaning o (set_at m a k) (set_at m b k)
   result_is Both k = refl
   result_is Either k = refl
   result_is Less k = refl
 
-  refusal_is : (o : Connective) (need : ℕ) → refusal m need (op_at o a b) ≡ numbers m a b need
+  refusal_is : (o : Connective) (need : ℕ) → refusal m need (joined o a b) ≡ numbers m a b need
   refusal_is Both need = refl
   refusal_is Either need = refl
   refusal_is Less need = refl
@@ -146,7 +143,7 @@ module _ (ws : List ℕ) (o : Connective) (a b : ℕ) where
   held_is : (c : ℕ) → c < count ws → ltb c (length m.held) ≡ true
   held_is c h = lt-ltb c (length m.held) (omega (arith, h, size_means ws))
 
-  pub asked_connective : Asked ws (op_at o a b) Held NoNumber (joint (meaning o) (cells_of ws) a b)
+  pub asked_connective : Asked ws (joined o a b) Held NoNumber (joint (meaning o) (cells_of ws) a b)
   asked_connective =
       record {
         agrees = λ h k l. result_is o k ∙ ap₂ (meaning o) (set_inside ws a k h.0 l) (set_inside ws b k h.1 l);

@@ -2,7 +2,7 @@
 use Rattle.std.proofs.Common.{◌≡◌, ℕ, ◌*◌, ◌%◌, ◌^◌, ◌<◌, ◌≤◌, Bool, true, false, ◌&&◌, ltb, List, length, Some, None, Option, sym, refl, ap, ◌∙◌, subst, ⊎_elim, arith}
 use Rattle.std.proofs.lemmas.Nat.{one_shl}
 use Rattle.std.proofs.lemmas.Bool.{cases_lt, and_right}
-use Rattle.stores.specs.Sets.{Set, empty, LowestIf}
+use Rattle.stores.specs.Sets.{Set, empty, everything, LowestIf}
 use Rattle.stores.specs.Model.{set_at}
 use Rattle.cells.specs.Cells.{Cell, mean, Reaches}
 use Rattle.cells.specs.Words.{switches, count, cells_of, Valid, LowestOf}
@@ -10,9 +10,9 @@ use Rattle.cells.proofs.Held.{canonical}
 use Rattle.cells.proofs.Need.{needed}
 use Rattle.cells.proofs.Chained.{length_cells}
 use Rattle.cells.proofs.Steps.{mean_none, mean_all}
-use Rattle.diagrams.specs.Meaning.{everything, cell_set, means}
-use Rattle.diagrams.specs.Stores.{Canonical, Reachable}
-use Rattle.diagrams.specs.Laws.{size_means, set_means, set_inside, set_outside}
+use Rattle.diagrams.specs.Meaning.{cell_set, means}
+use Rattle.diagrams.specs.Numbers.{Canonical, Reachable}
+use Rattle.diagrams.specs.Cutting.{size_means, set_means, set_inside, set_outside}
 
 and_true : (b : Bool) → (b && true) ≡ b
 and_true true = refl

@@ -1,81 +1,49 @@
--- What the contract of a store asks of its ghost members, proved. Assumes nothing.
---   size_means         as many sets are held as the words say
---   set_means          the set held under a number is the one of its cell
---   set_inside         below 2^n it has what the cell means
---   set_outside        held sets have no configuration of 2^n or above
---   count_fits         the cells fit the words
---   means_consistent   words in order mean a consistent store
---   lacking_bound      the need of every operation is within the bound
---   rollback_is_lawful      taking off in two steps is taking off at once; taking nothing off changes nothing
-use Rattle.std.specs.Prelude.{◌≡◌, ℕ, ◌^◌, ◌<◌, ◌≤◌, Bool, true, false, ◌&&◌, List, length, nat_lt, refl}
-use Rattle.std.proofs.Common.{sym, ap, ◌∙◌, ⊎_elim, arith, pow_pos}
-use Rattle.std.proofs.lemmas.List.FromFn.{length-map-range_with_len, get_or-map-range_with_len}
-use Rattle.std.proofs.lemmas.List.{get_or_past}
-use Rattle.std.proofs.lemmas.Bool.{cases_lt, ltb-true, lt-ltb, le-ltb, and_left, true≢false}
-use Rattle.stores.specs.Sets.{Set, empty}
-use Rattle.stores.specs.Model.{Consistent, set_at}
-use Rattle.stores.specs.Outcome.{Op, result, RollbackLaws}
-use Rattle.cells.specs.Cells.{Cell, mean}
-use Rattle.cells.specs.Words.{switches, count, cells_of, capacity, Valid}
+-- What the contract of a store asks of its ghost members, of diagram stores as values. Assumes nothing.
+--   Valid_prop           words are in order in one way at most
+--   same_words           stores in the same words are the same
+--   kept_twice           where a release in two steps ends
+--   kept_all             where a release to all that is held ends
+--   rollback_is_lawful   taking off in two steps is taking off at once; taking nothing off changes nothing
+use Rattle.std.specs.Prelude.{◌≡◌, ℕ, ◌≤◌, List, length, refl}
+use Rattle.std.proofs.Common.{ap, ◌∙◌, arith}
+use Rattle.std.proofs.Props.{props}
+use mathlib.Core.HLevel.{is_prop→PathP}
+use Rattle.stores.specs.Model.{kept}
+use Rattle.stores.specs.Outcome.{RollbackLaws}
+use Rattle.cells.specs.Words.{count, cells_of, Valid}
 use Rattle.cells.specs.Rolling.{rolled}
 use Rattle.cells.proofs.Chained.{length_cells}
 use Rattle.cells.proofs.Grow.{grows_refl}
-use Rattle.cells.proofs.Need.{needed}
-use Rattle.cells.proofs.Rolling.{rolled_twice, rolled_back}
-use Rattle.diagrams.specs.Meaning.{cell_set, means, lacking}
+use Rattle.cells.proofs.Rolling.{count_rolled, rolled_twice, rolled_back}
+use Rattle.diagrams.specs.Meaning.{means}
+use Rattle.diagrams.specs.Cutting.{size_means, cut_words}
 use Rattle.diagrams.specs.Stores.{with_words, rollback}
 use Rattle.diagrams.specs.declared.Diagrams.{Diagrams}
 
-module _ (ws : List ℕ) where
-  abbrev N : ℕ
-  N = switches ws
+Valid_prop : (ws : List ℕ) → IsProp (Valid ws)
+Valid_prop ws = Prim.hlevel props
 
-  abbrev cs : List Cell
-  cs = cells_of ws
+pub same_words : (s : Diagrams) (ws ws' : List ℕ) (v : Valid ws) (v' : Valid ws') → ws ≡ ws' → with_words s ws v ≡ with_words s ws' v'
+same_words s ws ws' v v' e = λ i. with_words s (e i) (is_prop→PathP (λ i. Valid (e i)) (λ i. Valid_prop (e i)) v v' i)
 
-  pub size_means : length (means ws).held ≡ count ws
-  size_means = length-map-range_with_len (cell_set N cs) 0 (length cs) ∙ length_cells ws
+two_held : (ws : List ℕ) → Valid ws → 2 ≤ count ws
+two_held ws v = omega (arith, length_cells ws, v.formed.reduced.two)
 
-  pub set_means : (a : ℕ) → a < count ws → set_at (means ws) a ≡ cell_set N cs a
-  set_means a h = get_or-map-range_with_len (cell_set N cs) 0 (length cs) a a empty (omega (arith, h, length_cells ws)) (omega arith)
+pub kept_all : (ws : List ℕ) → Valid ws → kept (means ws) (length (means ws).held) ≡ count ws
+kept_all ws v = omega (arith, size_means ws, two_held ws v)
 
-  pub set_inside : (a k : ℕ) → a < count ws → k < 2 ^ N → set_at (means ws) a k ≡ mean cs a k
-  set_inside a k h l = ap (λ (x : Set). x k) (set_means a h) ∙ ap (λ (b : Bool). b && mean cs a k) (lt-ltb k (2 ^ N) l)
+kept_twice : (ws : List ℕ) → Valid ws → (j k : ℕ) → k ≤ j → kept (means (cut_words ws j)) k ≡ kept (means ws) k
+kept_twice ws v j k h = omega (arith, size_means (cut_words ws j), count_rolled ws (kept (means ws) j) (omega (arith, v.formed.lies.room)), size_means ws, two_held ws v, h)
 
-  pub set_outside : (a k : ℕ) → 2 ^ N ≤ k → set_at (means ws) a k ≡ false
-  set_outside a k l = ⊎_elim
-      (λ (lt : a < count ws). ap (λ (x : Set). x k) (set_means a lt) ∙ and_left (nat_lt k (2 ^ N)) (mean cs a k) (le-ltb k (2 ^ N) l))
-      (λ (le : count ws ≤ a). ap (λ (x : Set). x k) (get_or_past (means ws).held a empty (omega (arith, size_means, le))))
-      (cases_lt a (count ws))
-
-  inside : (a k : ℕ) → set_at (means ws) a k ≡ true → k < 2 ^ N
-  inside a k h = ⊎_elim
-      (λ (lt : k < 2 ^ N). lt)
-      (λ (le : 2 ^ N ≤ k). absurd (true≢false (sym h ∙ set_outside a k le)))
-      (cases_lt k (2 ^ N))
-
-  pub count_fits : Valid ws → count ws ≤ capacity ws
-  count_fits v = omega (arith, v.formed.lies.few, v.formed.lies.room, v.formed.lies.count_is)
-
-  pub means_consistent : Valid ws → Consistent (means ws)
-  means_consistent v =
-      record {
-        few = v.formed.reduced.admitted;
-        within = λ k h. ltb-true k (2 ^ N) h;
-        some = λ h. true≢false (sym (lt-ltb 0 (2 ^ N) (pow_pos N)) ∙ h 0);
-        inside = inside;
-        floor = omega (arith, size_means, length_cells ws, v.formed.reduced.two);
-        room = omega (arith, size_means, count_fits v);
-      }
-
-  pub lacking_bound : Valid ws → (op : Op) → lacking ws op ≤ 2 ^ N
-  lacking_bound v op = omega (arith, (needed N cs v.formed.reduced (result (means ws) op)).1)
-
-pub rollback_is_lawful : RollbackLaws (λ (s : Diagrams). Valid s.words.now) (λ (s : Diagrams). means s.words.now) rollback
+pub rollback_is_lawful : RollbackLaws (λ (s : Diagrams). means s.words.now) rollback
 rollback_is_lawful =
     record {
-      twice = λ s j k h. ap (with_words s) (rolled_twice s.words.now j k h);
-      nothing = λ s v.
+      twice = λ s j k h.
           let ws = s.words.now in
-          ap (with_words s) (ap (rolled ws) (size_means ws) ∙ rolled_back ws ws v v refl refl (grows_refl (cells_of ws)) (λ i h. refl));
+          same_words s _ _ _ _
+          (ap (rolled (cut_words ws j)) (kept_twice ws s.valid j k h) ∙ rolled_twice ws (kept (means ws) j) (kept (means ws) k) (omega (arith, h)));
+      nothing = λ s.
+          let ws = s.words.now in
+          same_words s _ ws _ s.valid
+          (ap (rolled ws) (kept_all ws s.valid) ∙ rolled_back ws ws s.valid s.valid refl refl (grows_refl (cells_of ws)) (λ i h. refl));
     }

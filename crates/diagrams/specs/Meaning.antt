@@ -1,19 +1,15 @@
 -- What the words of a diagram store mean. Assumes nothing.
---   everything n       all configurations of n switches
 --   cell_set n cs c     the set of cell c, of n switches
 --   model_of n cs cap   the store of n switches with the cells cs and room for cap
 --   means ws           the store that the words hold
 --   lacking ws op      how many cells of the reduced diagram of an operation's result are not yet held
 use Rattle.std.specs.Prelude.{ℕ, ◌-◌, ◌^◌, ◌&&◌, List, map, length, nat_lt}
 use Rattle.std.specs.List.{range_with_len}
-use Rattle.stores.specs.Sets.{Set}
+use Rattle.stores.specs.Sets.{Set, everything}
 use Rattle.stores.specs.Model.{Model}
 use Rattle.stores.specs.Outcome.{Op, result}
 use Rattle.cells.specs.Cells.{Cell, mean, build}
 use Rattle.cells.specs.Words.{switches, cells_of, capacity}
-
-abbrev pub everything : ℕ → Set
-everything n = λ k. nat_lt k (2 ^ n)
 
 abbrev pub cell_set : ℕ → List Cell → ℕ → Set
 cell_set n cs c = λ k. nat_lt k (2 ^ n) && mean cs c k

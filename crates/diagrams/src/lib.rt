@@ -3,51 +3,36 @@
 // a release, and that two numbers are equal exactly when their sets are.
 #![tactic(auto)]
 
-ghost use Rattle.cells.specs.Words.{Valid, Prepared};
-ghost use Rattle.diagrams.specs.Meaning.{means, lacking};
-ghost use Rattle.diagrams.specs.Stores.{rollback, Made, Canonical, Reachable};
-ghost use Rattle.diagrams.specs.Laws.{means_consistent, lacking_bound, rollback_is_lawful};
+ghost use Rattle.cells.specs.Words.{Valid};
 
 use cells::layout::{ALL, COUNT_WORD, EMPTY, FLOOR, N_WORD};
 use cells::pool::{cut_cells, switch_cell};
 use cells::questions::{holds_cell, lowest_cell};
-use operations::apply::{Connective, operate};
+use operations::apply::operate;
 use stores::Store;
+use stores::connective::Connective;
 use stores::fault::StoreFault;
+use stores::in_words::InWords;
 
 #[derive(Drop)]
 pub struct Diagrams<'a> {
     words: &'a mut [u32],
-}
-
-// Writes a new store of `n` switches into the words, or leaves them as they were.
-pub fn prepare(words: &mut [u32], n: u32) -> Result<(), StoreFault>
-    ensures { Prepared words.old words.new n result }
-{
-    cells::making::prepare(words, n)
-}
-
-// A new store of `n` switches in the words. As long as there is one, two of its numbers are equal exactly when their sets are, and no operation adds a
-// cell that its answer does not need.
-pub fn make<'a>(words: &'a mut [u32], n: u32) -> Result<Diagrams<'a>, StoreFault>
-    ensures made { Made words.old n result }
-    ensures canonical { Canonical }
-    ensures reachable { Reachable }
-{
-    prepare(words, n)?;
-    Ok(Diagrams { words })
+    ghost valid: { Valid words.now },
 }
 
 impl<'a> Store for Diagrams<'a> {
-    ghost valid = { λ s. Valid s.words.now };
+    ghost use Rattle.diagrams.specs.Meaning.{means, lacking};
+    ghost use Rattle.diagrams.specs.Cutting.{means_consistent, lacking_bound};
+    ghost use Rattle.diagrams.specs.Stores.{rollback};
+    ghost use Rattle.diagrams.specs.Laws.{rollback_is_lawful};
 
     ghost model = { λ s. means s.words.now };
 
     ghost need = { λ s op. lacking s.words.now op };
 
-    ghost consistent = { λ s v. means_consistent s.words.now v };
+    ghost consistent = { λ s. means_consistent s.words.now s.valid };
 
-    ghost need_bound = { λ s v op. lacking_bound s.words.now v op };
+    ghost need_bound = { λ s op. lacking_bound s.words.now s.valid op };
 
     ghost rollback = { rollback };
 
@@ -73,16 +58,8 @@ impl<'a> Store for Diagrams<'a> {
         switch_cell(self.words, i)
     }
 
-    fn both(&mut self, a: u32, b: u32) -> Result<u32, StoreFault> {
-        operate(self.words, Connective::Both, a, b)
-    }
-
-    fn either(&mut self, a: u32, b: u32) -> Result<u32, StoreFault> {
-        operate(self.words, Connective::Either, a, b)
-    }
-
-    fn less(&mut self, a: u32, b: u32) -> Result<u32, StoreFault> {
-        operate(self.words, Connective::Less, a, b)
+    fn join(&mut self, how: Connective, a: u32, b: u32) -> Result<u32, StoreFault> {
+        operate(self.words, how, a, b)
     }
 
     fn holds(&self, a: u32, k: u32) -> Result<bool, StoreFault> {
@@ -104,9 +81,41 @@ impl<'a> Store for Diagrams<'a> {
 
     fn cut(&mut self, to: u32) {
         let kept = to.max(FLOOR);
-        if kept >= self.len() {
-            return;
+        if kept < self.len() {
+            cut_cells(self.words, kept);
         }
-        cut_cells(self.words, kept);
+    }
+}
+
+// As long as there is a store, two of its numbers are equal exactly when their sets are, and no operation adds a cell that its answer does not need.
+impl<'a> InWords<'a> for Diagrams<'a> {
+    ghost use Rattle.stores.specs.Making.{Prepared, Made};
+    ghost use Rattle.cells.specs.Words.{New, due, capacity};
+    ghost use Rattle.diagrams.specs.Meaning.{means};
+    ghost use Rattle.diagrams.specs.Numbers.{Canonical, Reachable};
+
+    type Word = u32;
+
+    ghost lies_in = { λ s. s.words.now };
+
+    ghost due = { due };
+
+    ghost room = { λ ws n. capacity ws };
+
+    ghost renewed = { New };
+
+    fn prepare(words: &mut [u32], n: u32) -> Result<(), StoreFault>
+        ensures { Prepared due New words.old n words.new result }
+    {
+        cells::making::prepare(words, n)
+    }
+
+    fn make(words: &'a mut [u32], n: u32) -> Result<Diagrams<'a>, StoreFault>
+        ensures made { Made (λ s. means s.words.now) (λ s. s.words.now) due (λ ws n. capacity ws) New words.old n result }
+        ensures canonical { Canonical }
+        ensures reachable { Reachable }
+    {
+        Self::prepare(words, n)?;
+        Ok(Diagrams { words })
     }
 }

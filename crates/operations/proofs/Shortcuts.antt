@@ -1,8 +1,8 @@
 -- The answers that need no recursion.
 use Rattle.std.proofs.Common.{◌≡◌, ℕ, ◌<◌, ◌≤◌, Bool, true, false, cond, not, ◌&&◌, ◌||◌, eqb, List, Some, None, Option, sym, refl, ap, ◌∙◌, subst, ⊎_elim, arith}
 use Rattle.std.proofs.lemmas.Bool.{eqb-true, eqb-false, or_cases, or_parts}
-use Rattle.operations.specs.declared.apply.Connective.{Connective}
-use Rattle.operations.specs.declared.apply.Connective.TheVariants.{Both, Either, Less}
+use Rattle.stores.specs.declared.connective.Connective.{Connective}
+use Rattle.stores.specs.declared.connective.Connective.TheVariants.{Both, Either, Less}
 use Rattle.cells.specs.Cells.{Cell, mean}
 use Rattle.operations.specs.Ops.{meaning, known_of}
 use Rattle.cells.proofs.Steps.{mean_none, mean_all}

@@ -2,8 +2,8 @@
 --   meaning o x y   what a connective gives at each configuration
 --   known_of o a b   the answer at two cells, where it needs no recursion
 use Rattle.std.specs.Prelude.{ℕ, Bool, cond, not, ◌&&◌, ◌||◌, Some, None, Option, ◌==◌}
-use Rattle.operations.specs.declared.apply.Connective.{Connective}
-use Rattle.operations.specs.declared.apply.Connective.TheVariants.{Both, Either, Less}
+use Rattle.stores.specs.declared.connective.Connective.{Connective}
+use Rattle.stores.specs.declared.connective.Connective.TheVariants.{Both, Either, Less}
 
 abbrev pub meaning : Connective → Bool → Bool → Bool
 meaning Both x y = x && y

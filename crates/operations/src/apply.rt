@@ -9,6 +9,7 @@ ghost use Rattle.cells.specs.Words.{WellFormed, Valid, switches, count, cells_of
 use super::working::{Working, recall, remember};
 use cells::layout::{ALL, CELL_WORDS, CELLS, COUNT_WORD, EMPTY, FLOOR, HIGH, LOW};
 use cells::pool::{cut_cells, join_cells};
+use stores::connective::Connective;
 use stores::fault::StoreFault;
 
 // One more than the switch of a cell, or 0.
@@ -72,50 +73,20 @@ pub(crate) fn take_apart(words: &[u32], a: u32, b: u32) -> Parts
     }
 }
 
-// An operation on two sets.
-#[derive(Clone, Copy)]
-pub enum Connective {
-    Both,
-    Either,
-    Less,
-}
-
 // The answer where it needs no recursion.
 pub(crate) fn known(op: Connective, a: u32, b: u32) -> Option<u32>
     ensures { result ≡ known_of op a b }
 {
-    match op {
-        Connective::Both => {
-            if a == EMPTY || b == EMPTY {
-                Some(EMPTY)
-            } else if a == ALL || a == b {
-                Some(b)
-            } else if b == ALL {
-                Some(a)
-            } else {
-                None
-            }
-        }
-        Connective::Either => {
-            if a == ALL || b == ALL {
-                Some(ALL)
-            } else if a == EMPTY || a == b {
-                Some(b)
-            } else if b == EMPTY {
-                Some(a)
-            } else {
-                None
-            }
-        }
-        Connective::Less => {
-            if a == EMPTY || b == ALL || a == b {
-                Some(EMPTY)
-            } else if b == EMPTY {
-                Some(a)
-            } else {
-                None
-            }
-        }
+    match (op, a, b) {
+        (Connective::Both, EMPTY, _) | (Connective::Both, _, EMPTY) => Some(EMPTY),
+        (Connective::Both, ALL, x) | (Connective::Both, x, ALL) => Some(x),
+        (Connective::Either, ALL, _) | (Connective::Either, _, ALL) => Some(ALL),
+        (Connective::Either, EMPTY, x) | (Connective::Either, x, EMPTY) => Some(x),
+        (Connective::Less, EMPTY, _) | (Connective::Less, _, ALL) => Some(EMPTY),
+        (Connective::Less, x, EMPTY) => Some(x),
+        (Connective::Less, ..) if a == b => Some(EMPTY),
+        _ if a == b => Some(a),
+        _ => None,
     }
 }
 

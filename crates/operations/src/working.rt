@@ -3,8 +3,8 @@ ghost use Rattle.std.specs.Prelude.{◌≡◌, ◌<◌, ◌≤◌, length, IfSom
 ghost use Rattle.operations.specs.Ops.{meaning};
 ghost use Rattle.cells.specs.Words.{WellFormed, count, Correct, Remembers, remembered, Swept};
 
-use super::apply::Connective;
 use cells::layout::{CELLS, PAIRS, WORKING};
+use stores::connective::Connective;
 
 // The key of two cells is the first times this, and the second.
 const KEY: u32 = 65_536;
@@ -41,9 +41,7 @@ pub(crate) fn sweep(words: &mut [u32])
     requires { 1090 ≤ length words.old }
     ensures { Swept words.old words.new }
 {
-    for i in WORKING..CELLS {
-        words[i] = 0;
-    }
+    words[WORKING..CELLS].fill(0);
 }
 
 // The words of a store while an operation runs: on every way out the working words are zero again.

@@ -1,18 +1,18 @@
 use Rattle.std.proofs.Common.{ℕ, ◌^◌, ◌<◌, sym, ◌∙◌, subst, arith}
 use Rattle.cells.specs.Words.{switches}
-use Rattle.diagrams.specs.Laws.{size_means, set_inside}
+use Rattle.diagrams.specs.Cutting.{size_means, set_inside}
 use Rattle.diagrams.proofs.Sets.{configuration_below}
 use Rattle.diagrams.proofs.DiagramsStore.holds.Goals as goal
 
 pub holds_cell-requires : goal.holds_cell-requires
-holds_cell-requires c = (c.requires.formed, omega (arith, c.if-a-len.false, c.len.ensures, size_means c.args.self.now.words.now))
+holds_cell-requires c = (c.args.self.now.valid.formed, omega (arith, c.if-a-len.false, c.len.ensures, size_means c.args.self.now.words.now))
 
 pub returns : goal.returns
 returns c =
     let ws = c.args.self.now.words.now in
     let n = c.switches.result in
     let k = c.args.k in
-    let lt : k < 2 ^ n = configuration_below n k (omega (arith, c.switches.ensures, c.requires.formed.reduced.admitted)) c.if-k-switches.false in
+    let lt : k < 2 ^ n = configuration_below n k (omega (arith, c.switches.ensures, c.args.self.now.valid.formed.reduced.admitted)) c.if-k-switches.false in
     let below : k < 2 ^ switches ws = subst (λ (z : ℕ). k < 2 ^ z) c.switches.ensures lt in (
       omega (arith, c.if-a-len.false, c.len.ensures),
       below,

@@ -1,5 +1,5 @@
 use Rattle.std.proofs.Common.{sym}
-use Rattle.diagrams.specs.Laws.{size_means}
+use Rattle.diagrams.specs.Cutting.{size_means}
 use Rattle.diagrams.proofs.DiagramsStore.len.Goals as goal
 
 pub returns : goal.returns
