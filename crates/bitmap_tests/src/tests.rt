@@ -24,7 +24,10 @@ fn most_switches(rt: HostRuntime) -> Result<(), Fail> {
 #[test]
 fn too_many_switches(rt: HostRuntime) {
     let mut words = [9; 1];
-    assert_eq!(rt; Bitmaps::prepare(&mut words, 11), Err(StoreFault::TooManySwitches));
+    assert_eq!(rt;
+        Bitmaps::prepare(&mut words, 11),
+        Err(StoreFault::TooManySwitches)
+    );
     assert_eq!(rt; words, [9]);
 }
 

@@ -18,7 +18,8 @@ use Rattle.stores.specs.declared.connective.Connective.TheVariants.{Both, Either
 use Rattle.bitmaps.specs.declared.operation.Operation.TheVariants.{Switch, Join}
 use Rattle.bitmaps.proofs.Bits.{on_ones}
 use Rattle.bitmaps.specs.Cutting.{starts, size_means, set_means, start_next, start_before}
-use Rattle.bitmaps.proofs.Slots.{word_within, bit_used, guarded, slot_same, sets_same}
+use Rattle.bitmaps.proofs.Slots.{bit_used}
+use Rattle.bitmaps.specs.Kept.{word_within, guarded, slot_same, sets_same}
 
 -- a guard goes into each part
 guard_and : (g x y : Bool) → (g && (x && y)) ≡ ((g && x) && (g && y))

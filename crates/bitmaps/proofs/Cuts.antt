@@ -1,40 +1,17 @@
 -- Words with slots taken off.
-use Rattle.std.proofs.Common.{◌≡◌, ℕ, ◌+◌, ◌<◌, ◌≤◌, max, false, cond, ◌&&◌, eqb, ltb, leb, List, map, length, get_or, take, set, sym, refl, ap, ◌∙◌, subst, ⊎_elim, arith, length-set, get_or-set_other, get_or-set_same}
-use Rattle.std.specs.List.{range_with_len}
-use Rattle.std.proofs.lemmas.List.FromFn.{take-map-range_with_len, fill_by_all}
+use Rattle.std.proofs.Common.{◌≡◌, ℕ, ◌<◌, ◌≤◌, max, false, cond, ◌&&◌, eqb, ltb, leb, List, length, get_or, set, sym, ap, ◌∙◌, subst, ⊎_elim, arith, length-set, get_or-set_other, get_or-set_same}
+use Rattle.std.proofs.lemmas.List.FromFn.{fill_by_all}
 use Rattle.std.proofs.lemmas.Bool.{cases_lt, leb-true, leb-false, ltb-true, ltb-false, eqb-true, eqb-false, and_parts, and_cases, cond_both}
-use Rattle.stores.specs.Model.{Model, kept, CutTo}
+use Rattle.stores.specs.Model.{kept}
 use Rattle.stores.specs.Outcome.{CutBack}
 use Rattle.bitmaps.specs.Layout.{slots, start}
-use Rattle.bitmaps.specs.Meaning.{slot, model_of, means, Valid, cut_word, cut_words}
+use Rattle.bitmaps.specs.Meaning.{means, Valid, cut_word, cut_words}
 use Rattle.bitmaps.specs.Stores.{with_words, rollback}
 use Rattle.bitmaps.specs.declared.Bitmaps.{Bitmaps}
-use Rattle.bitmaps.specs.Cutting.{starts, size_means, length_cut, kept_cut, n_cut, count_cut, cut_nothing, start_before}
+use Rattle.bitmaps.specs.Cutting.{starts, size_means, cut_nothing}
 use Rattle.bitmaps.specs.Laws.{same_words}
-use Rattle.bitmaps.proofs.Slots.{last_within, slot_same, sets_same}
-
-module _ (ws : List ℕ) where
-  abbrev N : ℕ
-  N = get_or ws 0 0
-
-  -- cut no further than the floor
-  module _ (v : Valid ws) (k : ℕ) (low : 2 ≤ k) (top : k ≤ get_or ws 1 0) where
-    slot_cut : (j : ℕ) → j < k → slot N (cut_words ws k) j ≡ slot N ws j
-    slot_cut j h = slot_same N ws (cut_words ws k) j j (λ t lt. kept_cut ws k (start N j + t) (λ e. omega (arith, e)) (omega (arith, lt, start_before N j k h)))
-
-    model_cut : means (cut_words ws k) ≡ model_of N k (length ws) (cut_words ws k)
-    model_cut = λ i. model_of (n_cut ws k i) (count_cut ws k v.header i) (length_cut ws k i) (cut_words ws k)
-
-    held_cut : map (slot N (cut_words ws k)) (range_with_len 0 k) ≡ take k (means ws).held
-    held_cut = sets_same (slot N (cut_words ws k)) (slot N ws) k slot_cut ∙ sym (take-map-range_with_len (slot N ws) 0 (get_or ws 1 0) k top)
-
-    pub cut_to : (to : ℕ) → kept (means ws) to ≡ k → CutTo (means ws) (means (cut_words ws k)) to
-    cut_to to e =
-        subst (λ (m : Model). CutTo (means ws) m to) (sym model_cut)
-        (record { same = record { n = refl; allowed = refl; floor = refl; capacity = refl }; held = held_cut ∙ ap (λ (z : ℕ). take z (means ws).held) (sym e) })
-
-    pub cut_back : (to : ℕ) → kept (means ws) to ≡ k → CutBack means cut_words ws (cut_words ws k) to
-    cut_back to e = record { cut = cut_to to e; value = ap (cut_words ws) (sym e) }
+use Rattle.bitmaps.specs.Kept.{cut_back}
+use Rattle.bitmaps.proofs.Slots.{last_within}
 
 -- what a cut writes: the slots from k on zero, then the count
 module _ (ws ws₁ : List ℕ) (v : Valid ws) (k : ℕ) (top : k ≤ get_or ws 1 0) (len : length ws₁ ≡ length ws)

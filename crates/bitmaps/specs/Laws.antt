@@ -1,6 +1,6 @@
 -- What the contract of a store asks of its ghost members, of bitmap stores as values. Assumes nothing.
 --   same_store           stores in the same words are the same
---   rollback_is_lawful   taking off in two steps is taking off at once; taking nothing off changes nothing
+--   rollback_is_lawful   taking off leaves what a release leaves; in two steps is taking off at once; taking nothing off changes nothing
 use Rattle.std.specs.Prelude.{◌≡◌, ℕ, ◌≤◌, List}
 use Rattle.std.proofs.Common.{ap, ◌∙◌, arith}
 use Rattle.std.proofs.Props.{props}
@@ -9,6 +9,7 @@ use Rattle.stores.specs.Model.{kept}
 use Rattle.stores.specs.Outcome.{RollbackLaws}
 use Rattle.bitmaps.specs.Meaning.{means, Valid, cut_words}
 use Rattle.bitmaps.specs.Cutting.{size_means, count_cut, cut_twice, cut_nothing}
+use Rattle.bitmaps.specs.Kept.{kept_cuts}
 use Rattle.bitmaps.specs.Stores.{with_words, rollback}
 use Rattle.bitmaps.specs.declared.Bitmaps.{Bitmaps}
 
@@ -32,6 +33,7 @@ kept_twice ws v j k h =
 pub rollback_is_lawful : RollbackLaws (λ (s : Bitmaps). means s.words.now) rollback
 rollback_is_lawful =
     record {
+      cuts = λ s k. kept_cuts s.words.now s.valid k;
       twice = λ s j k h.
           let ws = s.words.now in
           same_words s _ _ _ _

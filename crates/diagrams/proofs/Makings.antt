@@ -6,7 +6,7 @@ use Rattle.stores.specs.Making.{new_model}
 use Rattle.cells.specs.Words.{capacity, New, ends}
 use Rattle.diagrams.specs.Meaning.{model_of, means}
 use Rattle.diagrams.proofs.Sets.{empty_cell, full_cell}
-use Rattle.diagrams.proofs.Growth.{capacity_same}
+use Rattle.diagrams.specs.Cutting.{capacity_same}
 
 abbrev holding : ℕ → ℕ → List Set → Model
 holding n cap sets = record { n = n; allowed = everything n; held = sets; floor = 2; capacity = cap }

@@ -20,7 +20,7 @@ use Rattle.diagrams.specs.Cutting.{size_means, set_inside, set_outside, count_fi
 use Rattle.diagrams.specs.Stores.{with_words, rollback}
 use Rattle.diagrams.specs.Laws.{same_words}
 use Rattle.diagrams.specs.declared.Diagrams.{Diagrams}
-use Rattle.diagrams.proofs.Growth.{capacity_same, grown}
+use Rattle.diagrams.specs.Cutting.{capacity_same, grown}
 
 -- f is the result of an operation whose arguments are in order where ok holds, and whose fault is wrong where it does not
 pub record Asked (ws : List ℕ) (op : Op) (ok : Type 0) (wrong : StoreFault) (f : ℕ → Bool) : Type 0 where

@@ -3,7 +3,7 @@
 --   same_words           stores in the same words are the same
 --   kept_twice           where a release in two steps ends
 --   kept_all             where a release to all that is held ends
---   rollback_is_lawful   taking off in two steps is taking off at once; taking nothing off changes nothing
+--   rollback_is_lawful   taking off leaves what a release leaves; in two steps is taking off at once; taking nothing off changes nothing
 use Rattle.std.specs.Prelude.{◌≡◌, ℕ, ◌≤◌, List, length, refl}
 use Rattle.std.proofs.Common.{ap, ◌∙◌, arith}
 use Rattle.std.proofs.Props.{props}
@@ -16,7 +16,7 @@ use Rattle.cells.proofs.Chained.{length_cells}
 use Rattle.cells.proofs.Grow.{grows_refl}
 use Rattle.cells.proofs.Rolling.{count_rolled, rolled_twice, rolled_back}
 use Rattle.diagrams.specs.Meaning.{means}
-use Rattle.diagrams.specs.Cutting.{size_means, cut_words}
+use Rattle.diagrams.specs.Cutting.{size_means, cut_words, kept_cuts}
 use Rattle.diagrams.specs.Stores.{with_words, rollback}
 use Rattle.diagrams.specs.declared.Diagrams.{Diagrams}
 
@@ -38,6 +38,7 @@ kept_twice ws v j k h = omega (arith, size_means (cut_words ws j), count_rolled 
 pub rollback_is_lawful : RollbackLaws (λ (s : Diagrams). means s.words.now) rollback
 rollback_is_lawful =
     record {
+      cuts = λ s k. kept_cuts s.words.now s.valid k;
       twice = λ s j k h.
           let ws = s.words.now in
           same_words s _ _ _ _

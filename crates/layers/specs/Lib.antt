@@ -1,4 +1,5 @@
 pub mod Faults
+pub mod Fitting
 pub mod Layered
 pub mod Laws
 pub mod Preparing

@@ -1,6 +1,5 @@
 // Why a rule layer is not made.
 ghost use Rattle.std.specs.Prelude.{◌≡◌};
-ghost use Rattle.layers.specs.Faults.{described};
 ghost use Rattle.layers.specs.declared.fault.LayerFault.TheVariants.{Store};
 
 use faults::{Layer, Refusal};
@@ -22,12 +21,14 @@ impl From<StoreFault> for LayerFault {
     }
 }
 
-impl LayerFault {
-    // A layer is made outside the lines, so no refusal names one.
-    pub fn refusal(self) -> Refusal
-        ensures { result ≡ described self }
-    {
-        match self {
+// A layer is made outside the lines, so no refusal names one.
+impl From<LayerFault> for Refusal {
+    ghost use Rattle.layers.specs.Faults.{described};
+
+    ghost from_gives = { λ f r. r ≡ described f };
+
+    fn from(fault: LayerFault) -> Refusal {
+        match fault {
             LayerFault::Store(f) => f.refusal(0),
             LayerFault::NoneAllowed => Refusal {
                 number: 5,

@@ -2,10 +2,7 @@
 // May use `faults` and `stores`. Promises: over every store, what making a layer asks, answers and refuses, and of the layer all that a store promises.
 #![tactic(auto)]
 
-ghost use Rattle.std.specs.Prelude.{◌≡◌, ◌^◌};
-ghost use Rattle.layers.specs.Layered.{Fits, LayerValid, layer_model, layer_need, layer_rollback};
-ghost use Rattle.layers.specs.Making.{MakeAttempts, Makes};
-ghost use Rattle.layers.specs.Laws.{over_consistent, needs_bounded, layer_rollback_laws};
+ghost use Rattle.layers.specs.Fitting.{Fits};
 
 pub mod fault;
 pub mod preparation;
@@ -13,6 +10,7 @@ pub mod preparation;
 use fault::LayerFault;
 use preparation::Prepared;
 use stores::Store;
+use stores::connective::Connective;
 use stores::fault::StoreFault;
 
 // A store below, seen through rules: only what they allow is allowed, and what was prepared for them cannot be released.
@@ -20,6 +18,7 @@ use stores::fault::StoreFault;
 pub struct Layer<S: Store> {
     below: S,
     prepared: Prepared,
+    ghost fits: { Fits (S.model below) prepared },
 }
 
 // Why no layer was made, with the store as it was handed in.
@@ -30,11 +29,13 @@ pub struct MakeError<S> {
 }
 
 impl<S: Store> Layer<S> {
+    ghost use Rattle.std.specs.Prelude.{◌≡◌};
+    ghost use Rattle.layers.specs.Making.{MakeAttempts, Makes};
+
     // A layer over `store`, which allows those of the store's allowed configurations that are in its set `a`.
     pub fn make(mut store: S, a: u32) -> Result<Layer<S>, MakeError<S>>
-        requires { S.valid store }
-        ensures attempts { MakeAttempts S.model S.rollback S.need store a result }
-        ensures makes { Makes S.valid S.model S.rollback store a result }
+        ensures attempts { MakeAttempts store a result }
+        ensures makes { Makes store a result }
     {
         match preparation::prepare(&mut store, a) {
             Ok(prepared) => Ok(Layer::over(store, prepared)),
@@ -44,8 +45,9 @@ impl<S: Store> Layer<S> {
 
     // Cannot fail, since the store is still as preparing left it.
     pub(crate) fn over(store: S, prepared: Prepared) -> Layer<S>
-        requires { (S.valid store) × (Fits (S.model store) prepared) }
-        ensures { result ≡ record { below = store; prepared = prepared } }
+        requires { Fits (S.model store) prepared }
+        ensures below { result.below ≡ store }
+        ensures prepared { result.prepared ≡ prepared }
     {
         Layer {
             below: store,
@@ -55,9 +57,8 @@ impl<S: Store> Layer<S> {
 
     // A second layer over this one, from a set `a` of this one's.
     pub fn pile(self, a: u32) -> Result<Layer<Layer<S>>, MakeError<Layer<S>>>
-        requires { LayerValid S.valid S.model self }
-        ensures attempts { MakeAttempts (layer_model S.model) (layer_rollback S.rollback) (layer_need S.need) self a result }
-        ensures makes { Makes (LayerValid S.valid S.model) (layer_model S.model) (layer_rollback S.rollback) self a result }
+        ensures attempts { MakeAttempts self a result }
+        ensures makes { Makes self a result }
     {
         Layer::make(self, a)
     }
@@ -79,19 +80,21 @@ impl<S: Store> Layer<S> {
 }
 
 impl<S: Store> Store for Layer<S> {
-    ghost valid = { λ l. LayerValid S.Store.valid S.Store.model l };
+    ghost use Rattle.std.specs.Prelude.{◌^◌};
+    ghost use Rattle.layers.specs.Layered.{layer_model, layer_need, layer_rollback};
+    ghost use Rattle.layers.specs.Laws.{over_consistent, needs_bounded, layer_rollback_laws};
 
-    ghost model = { λ l. layer_model S.Store.model l };
+    ghost model = { λ l. layer_model l };
 
-    ghost need = { λ l op. layer_need S.Store.need l op };
+    ghost need = { λ l op. layer_need l op };
 
-    ghost consistent = { λ l v. over_consistent (S.Store.consistent l.below v.0) v.1 };
+    ghost consistent = { λ l. over_consistent (S.consistent l.below) l.fits };
 
-    ghost need_bound = { λ l v. needs_bounded (2 ^ (S.Store.model l.below).n) (S.Store.need l.below) (S.Store.need_bound l.below v.0) };
+    ghost need_bound = { λ l. needs_bounded (2 ^ (S.model l.below).n) (S.need l.below) (S.need_bound l.below) };
 
-    ghost rollback = { λ l k. layer_rollback S.Store.rollback l k };
+    ghost rollback = { layer_rollback };
 
-    ghost rollback_laws = { layer_rollback_laws S.Store.rollback_laws };
+    ghost rollback_laws = { layer_rollback_laws };
 
     fn none(&self) -> u32 {
         self.below.none()
@@ -113,19 +116,11 @@ impl<S: Store> Store for Layer<S> {
         if i >= self.switches() {
             return Err(StoreFault::NoSwitch);
         }
-        Ok(self.prepared.switches[i as usize])
+        Ok(self.prepared.switches.as_slice()[i as usize])
     }
 
-    fn both(&mut self, a: u32, b: u32) -> Result<u32, StoreFault> {
-        self.below.both(a, b)
-    }
-
-    fn either(&mut self, a: u32, b: u32) -> Result<u32, StoreFault> {
-        self.below.either(a, b)
-    }
-
-    fn less(&mut self, a: u32, b: u32) -> Result<u32, StoreFault> {
-        self.below.less(a, b)
+    fn join(&mut self, how: Connective, a: u32, b: u32) -> Result<u32, StoreFault> {
+        self.below.join(how, a, b)
     }
 
     fn holds(&self, a: u32, k: u32) -> Result<bool, StoreFault> {

@@ -2,30 +2,29 @@
 ghost use Rattle.layers.specs.Preparing.{WorksOut, Attempts, Prepares};
 
 use crate::fault::LayerFault;
+use arrayvec::ArrayVec;
 use stores::{MAX_SWITCHES, Store};
 
 // The number of what the rules allow, that of those with each switch on, and how many sets were held then.
-#[derive(Clone, Copy)]
+#[derive(Drop)]
 pub struct Prepared {
     pub top: u32,
     pub floor: u32,
-    pub switches: [u32; MAX_SWITCHES],
+    pub switches: ArrayVec<u32, MAX_SWITCHES>,
 }
 
 // Holds no mark, so `?` may leave it; what was appended before a refusal is then still held.
 fn work_out<S: Store>(store: &mut S, all: u32, a: u32) -> Result<Prepared, LayerFault>
-    requires { S.valid store.old }
-    ensures { WorksOut S.valid S.model S.rollback S.need store.old store.new all a result }
+    ensures { WorksOut S.model S.rollback S.need store.old store.new all a result }
 {
     let top = store.both(all, a)?;
     if store.find(top)?.is_none() {
         return Err(LayerFault::NoneAllowed);
     }
-    let mut switches = [0; MAX_SWITCHES];
-    let n = store.switches();
-    for i in 0..n {
+    let mut switches = ArrayVec::new();
+    for i in 0..store.switches() {
         let x = store.switch(i)?;
-        switches[i as usize] = store.both(top, x)?;
+        switches.push(store.both(top, x)?);
     }
     let floor = store.len();
     Ok(Prepared {
@@ -37,10 +36,8 @@ fn work_out<S: Store>(store: &mut S, all: u32, a: u32) -> Result<Prepared, Layer
 
 // Prepares a layer over `store` whose rules allow set `a`. Refused, the store is as it was.
 pub fn prepare<S: Store>(store: &mut S, a: u32) -> Result<Prepared, LayerFault>
-    requires { S.valid store.old }
-    ensures valid { S.valid store.new }
     ensures attempts { Attempts S.model S.rollback S.need store.old store.new a result }
-    ensures prepares { Prepares S.valid S.model S.rollback store.old store.new a result }
+    ensures prepares { Prepares S.model S.rollback store.old store.new a result }
 {
     let mark = store.mark();
     let all = store.top();

@@ -6,7 +6,7 @@
 --   Extends s s' k          k sets were appended, and taking them off again gives back the value s
 --   Outcome s s' op r       accepted: no refusal was due, exactly the need was appended, and the number answered holds the result;
 --                           refused: that fault was the one due, and the whole value is as it was
---   RollbackLaws            taking off in two steps is taking off at once; taking nothing off changes nothing
+--   RollbackLaws            taking off leaves what a release leaves; in two steps it is taking off at once; taking nothing off changes nothing
 --   CutBack s s' to         the value that a release to `to` leaves
 --   Advanced s s'           extended by some number of sets
 --   HoldsOutcome, FindOutcome   the two questions
@@ -46,6 +46,7 @@ pub record Extends {S : Type 0} (model : S → Model) (rollback : S → ℕ → 
   pub undo : rollback s' (length (model s).held) ≡ s
 
 pub record RollbackLaws {S : Type 0} (model : S → Model) (rollback : S → ℕ → S) : Type 0 where
+  pub cuts : (s : S) (k : ℕ) → CutTo (model s) (model (rollback s k)) k
   pub twice : (s : S) (j k : ℕ) → k ≤ j → rollback (rollback s j) k ≡ rollback s k
   pub nothing : (s : S) → rollback s (length (model s).held) ≡ s
 

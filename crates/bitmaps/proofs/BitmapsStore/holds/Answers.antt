@@ -2,7 +2,7 @@ use Rattle.std.proofs.Common.{ℕ, ◌+◌, ◌/◌, ◌%◌, ◌^◌, ◌<◌, 
 use Rattle.stores.specs.Sets.{on}
 use Rattle.bitmaps.specs.Layout.{start}
 use Rattle.bitmaps.specs.Cutting.{size_means}
-use Rattle.bitmaps.proofs.Slots.{word_within}
+use Rattle.bitmaps.specs.Kept.{word_within}
 use Rattle.bitmaps.proofs.Questions.{configuration_below, held_bit}
 use Rattle.bitmaps.proofs.BitmapsStore.holds.Goals as goal
 

@@ -3,10 +3,8 @@ use Rattle.layers.proofs.Layer.make.Goals as goal
 
 pub returns-in-Ok : goal.returns-in-Ok
 returns-in-Ok g c =
-    let s = g.S.Store in
     let e = c.in-Ok.ensures in
-    let h = made_after s.rollback_laws s.need s.consistent {s = c.args.store} {s₁ = c.prepare.new.store} {a = c.args.a} {p = c.in-Ok.prepared} {l = c.over.result}
-    c.over.ensures e.attempts e.prepares in
+    let h = made_after c.over.result c.over.ensures.below c.over.ensures.prepared e.attempts e.prepares in
     record { attempts = h.0; makes = h.1 }
 
 pub returns-in-Err : goal.returns-in-Err

@@ -6,13 +6,12 @@ pub returns-in-Ok : goal.returns-in-Ok
 returns-in-Ok g c =
     let s = g.S.Store in
     let h = kept_after s.rollback_laws s.need s.consistent c.top-all.ensures c.in-Ok.ensures c.keep.ensures in
-    record { valid = h.0; attempts = h.1; prepares = h.2 }
+    record { attempts = h.0; prepares = h.1 }
 
 pub returns-in-Err : goal.returns-in-Err
 returns-in-Err g c =
     let s = g.S.Store in
     record {
-      valid = search rules;
-      attempts = released_attempts s.rollback_laws s.need s.consistent c.requires c.top-all.ensures c.in-Err.ensures c.mark-mark.ensures (search rules);
-      prepares = released_refused s.rollback_laws s.need s.consistent c.requires c.top-all.ensures c.in-Err.ensures c.mark-mark.ensures (search rules);
+      attempts = released_attempts s.rollback_laws s.need s.consistent c.top-all.ensures c.in-Err.ensures c.mark-mark.ensures (search rules);
+      prepares = released_refused s.rollback_laws s.need s.consistent c.top-all.ensures c.in-Err.ensures c.mark-mark.ensures (search rules);
     }
