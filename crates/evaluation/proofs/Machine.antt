@@ -1,5 +1,5 @@
 -- The steps of an expression ask what the expression asks.
-use Rattle.std.proofs.Common.{◌≡◌, ℕ, zero, suc, ◌-◌, ◌<◌, ◌≤◌, ◌≢◌, List, [], ◌∷◌, ◌++◌, length, get_or, set, Option, sym, refl, ap, ◌∙◌, subst, append_assoc, append-nil, arith, get_or-set_other, get_or-set_same}
+use Rattle.std.proofs.Common.{◌≡◌, ℕ, List, [], ◌∷◌, ◌++◌, reverse, Option, sym, refl, ap, ◌∙◌, append_assoc, append-nil}
 use mathlib.Core.Path.{fun_ext}
 use Rattle.stores.specs.Outcome.{both, either, less}
 use Rattle.stores.specs.Steps.{Steps, done, fail, ask, test, then}
@@ -8,7 +8,8 @@ use Rattle.stores.proofs.Runs.{then_assoc}
 use Rattle.text.specs.Tokens.{Bytes}
 use Rattle.expressions.specs.Grammar.{Expr, never, always, named, neg, conj, disj}
 use Rattle.expressions.specs.Conditions.{Item, not-item, and_item, or-item, postfix}
-use Rattle.evaluation.specs.Worked.{op, worked, machine, stacked}
+use Rattle.evaluation.specs.Worked.{op, worked, machine}
+use Rattle.std.proofs.lemmas.List.{reverse-append}
 
 module _ (look : Bytes → Option ℕ) (none top : ℕ) where
   abbrev goes_on : List Item → List ℕ → ℕ → Steps ℕ StoreFault
@@ -47,19 +48,6 @@ module _ (look : Bytes → Option ℕ) (none top : ℕ) where
   pub machine_all : (e : Expr) → machine (postfix e) look none top [] ≡ worked e look none top
   machine_all e = ap (λ (l : List Item). machine l look none top []) (sym (append-nil (postfix e))) ∙ machine_worked e [] [] ∙ then_done (worked e look none top)
 
--- writing at or above the stack's end leaves it
-pub stacked_set : (vs : List ℕ) (n i v : ℕ) → n ≤ i → stacked (set vs i v) n ≡ stacked vs n
-stacked_set vs zero i v h = refl
-stacked_set vs (suc n) i v h =
-    let ne : n ≢ i = omega arith in
-    ap (λ (x : ℕ). x ∷ stacked (set vs i v) n) (get_or-set_other vs i n v 0 ne) ∙ ap (λ (l : List ℕ). get_or vs n 0 ∷ l) (stacked_set vs n i v (omega arith))
-
-pub stacked_push : (vs : List ℕ) (n v : ℕ) → n < length vs → stacked (set vs n v) (suc n) ≡ v ∷ stacked vs n
-stacked_push vs n v h =
-    ap (λ (x : ℕ). x ∷ stacked (set vs n v) n) (get_or-set_same vs n v 0 h) ∙ ap (λ (l : List ℕ). v ∷ l) (stacked_set vs n n v (omega arith))
-
-pub stacked_pop : (vs : List ℕ) (n : ℕ) → 0 < n → stacked vs n ≡ get_or vs (n - 1) 0 ∷ stacked vs (n - 1)
-stacked_pop vs zero h = absurd (omega arith)
-stacked_pop vs (suc m) h =
-    let e : suc m - 1 ≡ m = omega arith in
-    subst (λ (j : ℕ). get_or vs m 0 ∷ stacked vs m ≡ get_or vs j 0 ∷ stacked vs j) (sym e) refl
+-- what putting a number behind a list leaves, as a stack with the last on top
+pub stack_pushed : (vs ws : List ℕ) (v : ℕ) → ws ≡ vs ++ v ∷ [] → reverse ws ≡ v ∷ reverse vs
+stack_pushed vs ws v e = ap reverse e ∙ reverse-append vs (v ∷ [])

@@ -6,9 +6,8 @@
 --   one i st          what one step asks, on the stack of numbers that the steps before it left, the newest first
 --   popped i st       the stack without that step's operands
 --   machine is st     the steps one after another; the last number left is the answer
---   stacked vs n      the first n of vs as a stack
 --   steps_of c         the steps of the condition c of the code
-use Rattle.std.specs.Prelude.{ℕ, zero, suc, List, [], ◌∷◌, take, Some, None, Option, slice_index}
+use Rattle.std.specs.Prelude.{ℕ, List, [], ◌∷◌, take, Some, None, Option}
 use Rattle.stores.specs.Outcome.{Op, both, either, less}
 use Rattle.stores.specs.Steps.{Steps, done, then, asked}
 use Rattle.stores.specs.declared.fault.StoreFault.{StoreFault}
@@ -59,10 +58,6 @@ popped or-item st = rest (rest st)
 abbrev pub machine : List Item → (Bytes → Option ℕ) → ℕ → ℕ → List ℕ → Steps ℕ StoreFault
 machine [] look none top st = done (first none st)
 machine (i ∷ is) look none top st = then (one i look none top st) (λ c. machine is look none top (c ∷ popped i st))
-
-abbrev pub stacked : List ℕ → ℕ → List ℕ
-stacked vs zero = []
-stacked vs (suc n) = slice_index vs n ∷ stacked vs n
 
 abbrev pub steps_of : Condition → List Item
 steps_of c = items c.line.now (take c.len c.steps)

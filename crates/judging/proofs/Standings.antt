@@ -1,12 +1,13 @@
 -- One more switch judged.
-use Rattle.std.proofs.Common.{◌≡◌, ℕ, ◌+◌, ◌<◌, ◌≤◌, Bool, true, false, cond, ◌&&◌, ltb, List, [], ◌∷◌, ◌++◌, length, get_or, is_err, IfOk, Some, None, Ok, Err, Option, Result, sym, refl, ap, ◌∙◌, subst, ⊎_elim, arith, length-append, ltb-false}
+use Rattle.std.proofs.Common.{◌≡◌, ℕ, ◌+◌, ◌-◌, ◌^◌, ◌<◌, min, ◌≤◌, Bool, true, false, ◌&&◌, List, [], ◌∷◌, ◌++◌, length, get_or, is_err, IfOk, Some, Ok, Err, Option, Result, sym, refl, ap, ◌∙◌, subst, ⊎_elim, arith, length-append}
 use mathlib.Core.Path.{fun_ext}
-use Rattle.stores.specs.declared.fault.StoreFault.TheVariants.{TooManySwitches, TooSmall}
-use Rattle.bitmaps.specs.Layout.{slots}
-use Rattle.bitmaps.specs.Making.{due}
 use lib.ListN.{get_or-append}
 use lib.Seq.{get_or-append_seam}
 use Rattle.std.proofs.lemmas.Bool.{cases_lt}
+use Rattle.std.specs.Result.{OkIff, result_unwrap_or}
+use Rattle.std.proofs.lemmas.Result.{OkIff-at_ok, OkIff-at_err}
+use Rattle.stores.specs.Model.{Model, Consistent}
+use Rattle.stores.specs.Making.{new_model}
 use Rattle.stores.specs.Sets.{Set, ◌∩◌, Lowest, LowestIf}
 use Rattle.standing.specs.declared.verdict.Standing.{Standing}
 use Rattle.standing.specs.declared.verdict.Standing.TheVariants.{Free}
@@ -51,10 +52,17 @@ judged A L L' T n m k vs o e f g h stand low is = (
 pub judged_by : (A B : Set) (n m k : ℕ) (vs : List Standing) → A ≡ B → n ≡ m → Judged A n vs k → Judged B m vs k
 judged_by A B n m k vs e f h = subst (λ (j : ℕ). Judged B j vs k) f (subst (λ (X : Set). Judged X n vs k) e h)
 
--- a bitmap store that was made has few switches
-pub few_switches : (len n : ℕ) → due len n ≡ None → n ≤ 10
-few_switches len n e = ltb-false 10 n (by_test (ltb 10 n) e)
-  where
-    by_test : (b : Bool) → cond b (Some TooManySwitches) (cond (ltb (slots len n) 2) (Some TooSmall) None) ≡ None → b ≡ false
-    by_test false q = refl
-    by_test true q = let z : ◌≡◌ {A = ℕ} 0 1 = cc in absurd (omega arith)
+-- how many switches a text declares, as far as numbers go
+pub counted : {E : Type 0} (r : Result ℕ E) (n c : ℕ) → OkIff r (n < 2 ^ 32) n → c ≡ result_unwrap_or r (2 ^ 32 - 1) → c ≡ min n (2 ^ 32 - 1)
+counted {E} (Ok x) n c h e =
+    let w : (n < 2 ^ 32) × (x ≡ n) = OkIff-at_ok {E = E} (Ok x) (n < 2 ^ 32) n x h refl in
+    omega arith
+counted {E} (Err x) n c h e =
+    let w : n < 2 ^ 32 → ⊥ = OkIff-at_err (Err x) (n < 2 ^ 32) n x h refl in
+    omega arith
+
+-- a store that was made has few switches, so that all were counted
+pub all_counted : (m : Model) (room n c : ℕ) → Consistent m → m ≡ new_model c room → c ≡ min n (2 ^ 32 - 1) → c ≡ n
+all_counted m room n c ok e h =
+    let k : m.n ≡ c = ap (λ (x : Model). x.n) e in
+    omega (arith, ok.few, k, h)

@@ -1,4 +1,5 @@
 pub mod Faults
 pub mod Judged
 pub mod Texts
+pub mod Layered
 pub mod Refused

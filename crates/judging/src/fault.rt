@@ -11,7 +11,7 @@ use rulelines::fault::RuleFault;
 use std::alloc::{AllocError, AllocFailed};
 use stores::fault::StoreFault;
 
-#[derive(Clone, Copy)]
+#[derive(Clone, Copy, PartialEq, Eq, Debug)]
 pub enum JudgingFault {
     Rules(RuleFault),
     Store(StoreFault),
@@ -25,9 +25,9 @@ impl JudgingFault {
         ensures { result ≡ described self }
     {
         match self {
-            JudgingFault::Rules(fault) => Some(fault.refusal()),
+            JudgingFault::Rules(fault) => Some(fault.into()),
             JudgingFault::Store(fault) => Some(fault.refusal(0)),
-            JudgingFault::Layer(fault) => Some(fault.refusal()),
+            JudgingFault::Layer(fault) => Some(fault.into()),
             JudgingFault::OutOfMemory => None,
         }
     }

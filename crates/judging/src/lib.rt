@@ -8,25 +8,25 @@ ghost use Rattle.names.specs.Names.{texts};
 ghost use Rattle.rules.specs.Allowed.{allowed_by};
 ghost use Rattle.judging.specs.Judged.{AllStand, Judged};
 ghost use Rattle.judging.specs.Texts.{JudgedText};
+ghost use Rattle.judging.specs.Layered.{LayerOutcome};
 ghost use Rattle.judging.specs.Refused.{SwitchRefused, OverRefused, TextRefused};
 
 pub mod fault;
 
-use bitmaps::make;
 use fault::JudgingFault;
 use layers::Layer;
 use layers::fault::LayerFault;
 use rulelines::declaration::{Declarations, read_switches};
-use rules::reading::read_rules;
+use rules::reading::{RuleLines, read_rules};
 use standing::standing;
 use standing::verdict::Standing;
 use std::alloc::Global;
 use std::fmt;
 use stores::Store;
+use stores::in_words::InWords;
 
 // How every switch stands among what the store allows. The store is as before.
 fn judge_switches<S: Store>(heap: Global, store: &mut S) -> Result<Vec<Standing>, JudgingFault>
-    requires { S.valid store.old }
     ensures same { store.new ≡ store.old }
     ensures stand { IfOk result (λ v. AllStand (S.model store.old).allowed (S.model store.old).n v.items) }
     ensures refused { IfErr result (SwitchRefused S.model S.rollback S.need store.old) }
@@ -38,28 +38,27 @@ fn judge_switches<S: Store>(heap: Global, store: &mut S) -> Result<Vec<Standing>
     Ok(standings)
 }
 
-// The standings of all switches under the rules of `text`, and the lowest configuration that these allow. The store is used up.
+// A layer over the store that allows what is in its set `a`, or only why there is none.
+fn layer_over<S: Store + Drop>(store: S, a: u32) -> Result<Layer<S>, LayerFault>
+    ensures { LayerOutcome S.Store store a result }
+{
+    Layer::make(store, a).map_err(|refused| refused.fault)
+}
+
+// The standings of all switches under the rules, and the lowest configuration that these allow. The store is used up.
 pub fn judge_over<S: Store + Drop>(
     heap: Global,
-    names: &[&[u8]],
-    text: &[u8],
-    lines: usize,
+    rules: RuleLines<'_, '_>,
     mut store: S,
 ) -> Result<(Vec<Standing>, u32), JudgingFault>
-    requires { S.valid store }
-    ensures judged { IfOk result (λ j. Judged (allowed_by (S.model store).allowed (texts names.now) (lines_of text.now)) (S.model store).n j.0.items j.1) }
-    ensures refused { IfErr result (OverRefused S.model S.rollback S.need (texts names.now) lines text.now store) }
+    ensures judged { IfOk result (λ j. Judged (allowed_by (S.model store).allowed (texts rules.entry.names.now) (lines_of rules.entry.text.now)) (S.model store).n j.0.items j.1) }
+    ensures refused { IfErr result (OverRefused S.Store (texts rules.entry.names.now) rules.entry.lines rules.entry.text.now store) }
 {
-    let rules = read_rules(names, text, lines, &mut store)?;
-    let mut layer = match Layer::make(store, rules.allowed) {
-        Ok(layer) => layer,
-        Err(refused) => return Err(JudgingFault::Layer(refused.fault)),
-    };
+    let read = read_rules(rules, &mut store)?;
+    let mut layer = layer_over(store, read.allowed)?;
     let standings = judge_switches(heap, &mut layer)?;
-    match layer.find(layer.top())? {
-        Some(lowest) => Ok((standings, lowest)),
-        None => Err(JudgingFault::Layer(LayerFault::NoneAllowed)),
-    }
+    let lowest = layer.find(layer.top())?.ok_or(LayerFault::NoneAllowed)?;
+    Ok((standings, lowest))
 }
 
 // What the rules of a text leave: the switches' names, how each stands, and the lowest allowed configuration.
@@ -84,20 +83,25 @@ impl fmt::Display for Judgement<'_> {
     }
 }
 
-// Judges a rule text with a bitmap store in the words.
-pub fn judge<'a>(
+// Judges a rule text with a store in the words.
+pub fn judge<'a, 'w, S: InWords<'w> + Drop>(
     heap: Global,
     text: &'a [u8],
-    words: &mut [u64],
+    words: &'w mut [S::Word],
 ) -> Result<Judgement<'a>, JudgingFault>
     ensures judged { IfOk result (JudgedText text.now) }
-    ensures refused { IfErr result (TextRefused text.now words.old) }
+    ensures refused { IfErr result (TextRefused S.Store S.lies_in S.due S.room S.renewed text.now words.old) }
 {
     let Declarations { names, lines, rest } = read_switches(heap, text)?;
     // beyond the largest number there are too many switches anyway
-    let count = names.len().min(u32::MAX as usize) as u32;
-    let store = make(words, count)?;
-    let (standings, lowest) = judge_over(heap, names.as_slice(), rest, lines, store)?;
+    let count = u32::try_from(names.len()).unwrap_or(u32::MAX);
+    let store = S::make(words, count)?;
+    let rules = RuleLines {
+        names: names.as_slice(),
+        text: rest,
+        lines,
+    };
+    let (standings, lowest) = judge_over(heap, rules, store)?;
     Ok(Judgement {
         names,
         standings,

@@ -3,7 +3,6 @@ use Rattle.std.proofs.Common.{◌≡◌, ℕ, false, List, [], ◌∷◌, ◌++�
 use Rattle.faults.specs.declared.Refusal.{Refusal}
 use Rattle.lines.specs.Lines.{until_feed, past_feed, lines_of, FirstLine}
 use Rattle.names.specs.Names.{texts}
-use Rattle.names.proofs.Turns.{texts_append}
 use Rattle.text.specs.Tokens.{Bytes}
 use Rattle.expressions.specs.Conditions.{only_name}
 use Rattle.expressions.specs.Placed.{read_in}
@@ -38,5 +37,9 @@ declared_end names l [] e = refl
 declared_end names l (x ∷ rest) e = absurd (omega arith)
 
 -- one more name
+texts_append : (ns : List (Bor Bytes)) (x : Bor Bytes) → texts (ns ++ x ∷ []) ≡ texts ns ++ x.now ∷ []
+texts_append [] x = refl
+texts_append (n ∷ ns) x = ap (λ (l : List Bytes). n.now ∷ l) (texts_append ns x)
+
 pub texts_more : (ns ms : List (Bor Bytes)) (x : Bor Bytes) → ms ≡ ns ++ x ∷ [] → texts ms ≡ texts ns ++ x.now ∷ []
-texts_more ns ms x e = ap texts e ∙ texts_append ns (x ∷ [])
+texts_more ns ms x e = ap texts e ∙ texts_append ns x

@@ -22,7 +22,7 @@ pub struct Declarations<'a> {
 }
 
 // A list of names grows with the text, so it may also find no memory, which is no refusal of the text.
-#[derive(Clone, Copy, Debug)]
+#[derive(Clone, Copy, PartialEq, Eq, Debug)]
 pub enum DeclarationFault {
     Rules(RuleFault),
     OutOfMemory,
@@ -72,22 +72,25 @@ fn new_name<'a>(
 pub fn read_switches<'a>(heap: Global, text: &'a [u8]) -> Result<Declarations<'a>, DeclarationFault>
     ensures { DeclarationsOutcome text.now result }
 {
-    let mut names = Vec::new(heap);
-    let mut lines = 0usize;
-    let mut rest = text;
-    while !rest.is_empty() {
-        let (line, behind) = first_line(rest);
-        let number = lines.saturating_add(1);
+    let mut declared = Declarations {
+        names: Vec::new(heap),
+        lines: 0,
+        rest: text,
+    };
+    // no `for`: what stands behind the last line read is a part of the answer
+    while !declared.rest.is_empty() {
+        let (line, behind) = first_line(declared.rest);
+        let number = declared.lines.saturating_add(1);
         match kind_of(line) {
             LineKind::Blank => {}
             LineKind::Switch { behind: from } => {
-                let name = new_name(line, from, number, names.as_slice())?;
-                names.push(name)?;
+                let name = new_name(line, from, number, declared.names.as_slice())?;
+                declared.names.push(name)?;
             }
-            _ => return Ok(Declarations { names, lines, rest }),
+            _ => break,
         }
-        lines = number;
-        rest = behind;
+        declared.lines = number;
+        declared.rest = behind;
     }
-    Ok(Declarations { names, lines, rest })
+    Ok(declared)
 }

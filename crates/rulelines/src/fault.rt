@@ -32,44 +32,23 @@ impl From<ExpressionFault> for RuleFault {
 // All that is wrong with the declarations themselves has one number.
 const DECLARATIONS: u32 = 23;
 
-impl RuleFault {
-    pub fn refusal(self) -> Refusal
-        ensures { result ≡ described self }
-    {
-        let layer = Layer::Rules;
-        match self {
-            RuleFault::Store { fault, line } => fault.refusal(line),
-            RuleFault::Expression(fault) => fault.refusal(),
-            RuleFault::Misplaced { line } => Refusal {
-                number: DECLARATIONS,
-                layer,
-                line,
-                byte: 0,
-            },
-            RuleFault::DeclaredTwice { line } => Refusal {
-                number: DECLARATIONS,
-                layer,
-                line,
-                byte: 0,
-            },
-            RuleFault::Undeclared { line } => Refusal {
-                number: DECLARATIONS,
-                layer,
-                line,
-                byte: 0,
-            },
-            RuleFault::Names => Refusal {
-                number: DECLARATIONS,
-                layer,
-                line: 0,
-                byte: 0,
-            },
-            RuleFault::NoBegin => Refusal {
-                number: DECLARATIONS,
-                layer,
-                line: 0,
-                byte: 0,
-            },
+impl From<RuleFault> for Refusal {
+    ghost from_gives = { λ f r. r ≡ described f };
+
+    fn from(fault: RuleFault) -> Refusal {
+        let line = match fault {
+            RuleFault::Store { fault, line } => return fault.refusal(line),
+            RuleFault::Expression(fault) => return fault.refusal(),
+            RuleFault::Misplaced { line }
+            | RuleFault::DeclaredTwice { line }
+            | RuleFault::Undeclared { line } => line,
+            RuleFault::Names | RuleFault::NoBegin => 0,
+        };
+        Refusal {
+            number: DECLARATIONS,
+            layer: Layer::Rules,
+            line,
+            byte: 0,
         }
     }
 }

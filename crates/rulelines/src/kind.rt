@@ -2,10 +2,10 @@
 ghost use Rattle.std.specs.Prelude.{◌≡◌, ℕ, ◌+◌, ◌-◌, ◌^◌, ◌<◌, ◌≤◌, length};
 ghost use Rattle.rulelines.specs.Kinds.{kind_of, by_word};
 
-use text::{Part, Token, Tokens, is};
+use text::{Part, Token, Tokens};
 
 // A word's line has the offset behind the word.
-#[derive(Clone, Copy, Debug)]
+#[derive(Clone, Copy, PartialEq, Eq, Debug)]
 pub enum LineKind {
     Blank,
     Switch { behind: usize },
@@ -19,14 +19,11 @@ fn by_word(word: Part<'_>) -> LineKind
     ensures { result ≡ by_word word.entry.text.now (word.entry.at - 1 + length word.entry.text.now) }
 {
     let behind = word.at.saturating_sub(1) + word.text.len();
-    if is(word.text, b"switch") {
-        LineKind::Switch { behind }
-    } else if is(word.text, b"rule") {
-        LineKind::Rule { behind }
-    } else if is(word.text, b"begin") {
-        LineKind::Begin { behind }
-    } else {
-        LineKind::Foreign
+    match word.text {
+        b"switch" => LineKind::Switch { behind },
+        b"rule" => LineKind::Rule { behind },
+        b"begin" => LineKind::Begin { behind },
+        _ => LineKind::Foreign,
     }
 }
 

@@ -1,6 +1,6 @@
 -- Which names are declared.
-use Rattle.std.proofs.Common.{◌≡◌, ℕ, ◌+◌, ◌<◌, ◌≤◌, Bool, true, false, ◌&&◌, List, [], ◌∷◌, ◌++◌, length, get_or, take, drop, sym, refl, ap, ◌∙◌, ap₂}
-use Rattle.std.proofs.lemmas.List.{at_drop_more, at_drop_all}
+use Rattle.std.proofs.Common.{◌≡◌, Bool, true, false, ◌&&◌, List, [], ◌∷◌, ◌++◌, take, sym, refl, ap, ◌∙◌, ap₂}
+use Rattle.std.specs.List.{list_all}
 use Rattle.text.specs.Tokens.{Bytes}
 use Rattle.expressions.specs.Grammar.{Expr, never, always, named, neg, conj, disj}
 use Rattle.expressions.specs.Conditions.{Item, not-item, and_item, or-item, item_at, items, postfix}
@@ -10,16 +10,9 @@ use Rattle.evaluation.specs.Worked.{steps_of}
 use Rattle.rules.specs.Ruled.{known}
 use Rattle.rules.specs.Turns.{known_item, all_known}
 
-pub known_turn : (ns : List Bytes) (line : Bytes) (ss : List Step) (i : ℕ) (d : Step) (b : Bool) → i < length ss → b ≡ known_item ns (item_at line (get_or ss i d))
-    → all_known ns (items line (drop i ss)) ≡ (b && all_known ns (items line (drop (i + 1) ss)))
-known_turn ns line ss i d b h e =
-    at_drop_more (λ (l : List Step). all_known ns (items line l)) ss i d h ∙ ap (λ (t : Bool). t && all_known ns (items line (drop (i + 1) ss))) (sym e)
-
-pub known_end : (ns : List Bytes) (line : Bytes) (ss : List Step) (i : ℕ) → length ss ≤ i → all_known ns (items line (drop i ss)) ≡ true
-known_end ns line ss i h = at_drop_all (λ (l : List Step). all_known ns (items line l)) ss i h
-
-pub known_condition : (ns : List Bytes) (c : Condition) (line : Bytes) (ss : List Step) → line ≡ c.line.now → ss ≡ take c.len c.steps → all_known ns (items line ss) ≡ all_known ns (steps_of c)
-known_condition ns c line ss e f = ap₂ (λ (l : Bytes) (s : List Step). all_known ns (items l s)) e f
+known_all : (ns : List Bytes) (line : Bytes) (ss : List Step) → all_known ns (items line ss) ≡ list_all (λ x. known_item ns (item_at line x)) ss
+known_all ns line [] = refl
+known_all ns line (x ∷ ss) = ap (λ (t : Bool). known_item ns (item_at line x) && t) (known_all ns line ss)
 
 and_assoc : (x y z : Bool) → ((x && y) && z) ≡ (x && (y && z))
 and_assoc true y z = refl
@@ -48,5 +41,7 @@ known_postfix ns (disj e f) =
 pub steps_read : (c : Condition) (line : Bytes) (e : Expr) → c.line.now ≡ line → items line (take c.len c.steps) ≡ postfix e → steps_of c ≡ postfix e
 steps_read c line e q r = ap (λ (l : Bytes). items l (take c.len c.steps)) q ∙ r
 
-pub known_read : (ns : List Bytes) (c : Condition) (line : Bytes) (e : Expr) (b : Bool) → c.line.now ≡ line → items line (take c.len c.steps) ≡ postfix e → b ≡ all_known ns (steps_of c) → known ns e ≡ b
-known_read ns c line e b q r h = sym (h ∙ ap (all_known ns) (steps_read c line e q r) ∙ known_postfix ns e)
+pub known_read : (ns : List Bytes) (c : Condition) (line l : Bytes) (ss : List Step) (e : Expr) (b : Bool) → c.line.now ≡ line → items line (take c.len c.steps) ≡ postfix e
+    → l ≡ c.line.now → ss ≡ take c.len c.steps → b ≡ list_all (λ x. known_item ns (item_at l x)) ss → known ns e ≡ b
+known_read ns c line l ss e b q r p s h =
+    sym (h ∙ sym (known_all ns l ss) ∙ ap₂ (λ (x : Bytes) (y : List Step). all_known ns (items x y)) p s ∙ ap (all_known ns) (steps_read c line e q r) ∙ known_postfix ns e)

@@ -1,6 +1,5 @@
 -- The loop over the switches.
-use Rattle.std.proofs.Common.{◌≡◌, ℕ, zero, suc, ◌+◌, ◌-◌, ◌<◌, ◌≤◌, List, [], ◌∷◌, ◌++◌, length, take, set, Ok, Err, Result, sym, refl, ap, ◌∙◌, subst, inl, inr, arith}
-use Rattle.std.proofs.lemmas.List.{take_more_set}
+use Rattle.std.proofs.Common.{◌≡◌, ℕ, zero, suc, ◌+◌, ◌-◌, ◌<◌, List, [], ◌∷◌, ◌++◌, Ok, Err, Result, sym, refl, ap, ◌∙◌, subst, inl, inr, arith}
 use Rattle.faults.specs.declared.Refusal.{Refusal}
 use Rattle.stores.specs.Model.{Model}
 use Rattle.stores.specs.Outcome.{Op, switch, Outcome}
@@ -25,19 +24,20 @@ module _ {S : Type 0} (model : S → Model) (rollback : S → ℕ → S) (need :
   GoesOn i ns s =
       (s' : S) (r : Result (List ℕ) Refusal) → Runs model rollback need (switching (n - i) i ns done) s s' r → Runs model rollback need (switching n 0 [] done) s₀ s' r
 
-  pub goes_start : GoesOn 0 [] s₀
-  goes_start s' r h = subst (λ (j : ℕ). Runs model rollback need (switching j 0 [] done) s₀ s' r) (let z : n - 0 ≡ n = omega arith in z) h
+  pub goes_start : (vs : List ℕ) → vs ≡ [] → GoesOn 0 vs s₀
+  goes_start vs e s' r h =
+      subst (λ (j : ℕ). Runs model rollback need (switching j 0 [] done) s₀ s' r) (let z : n - 0 ≡ n = omega arith in z) (subst (λ (l : List ℕ). Runs model rollback need (switching (n - 0) 0 l done) s₀ s' r) e h)
 
   one : (i : ℕ) (ns : List ℕ) (s s' : S) (r : Result (List ℕ) Refusal) → i < n
       → Runs model rollback need (ask (switch i) (λ f. store f 0) (λ c. switching (n - (i + 1)) (i + 1) (ns ++ c ∷ []) done)) s s' r → Runs model rollback need (switching (n - i) i ns done) s s' r
   one i ns s s' r lt h = subst (λ (j : ℕ). Runs model rollback need (switching j i ns done) s s' r) (let z : suc (n - (i + 1)) ≡ n - i = omega arith in z) h
 
-  pub goes_more : (i c : ℕ) (vs : List ℕ) (s s₁ : S) (q : Result ℕ StoreFault) → i < n → i < length vs → GoesOn i (take i vs) s → Outcome model rollback need s s₁ (switch i) q
-      → ◌≡◌ {A = Result ℕ RuleFault} (Ok c) (blamed_on 0 q) → GoesOn (i + 1) (take (i + 1) (set vs i c)) s₁
-  goes_more i c vs s s₁ (Err f) lt lv go o e s' r h = absurd (ok_not_err e)
-  goes_more i c vs s s₁ (Ok d) lt lv go o e s' r h =
-      let h' = subst (λ (l : List ℕ). Runs model rollback need (switching (n - (i + 1)) (i + 1) l done) s₁ s' r) (take_more_set vs i c lv ∙ ap (λ (x : ℕ). take i vs ++ x ∷ []) (ok_same {F = RuleFault} e)) h in
-      go s' r (one i (take i vs) s s' r lt (inr (d, s₁, o, h')))
+  pub goes_more : (i c : ℕ) (vs ws : List ℕ) (s s₁ : S) (q : Result ℕ StoreFault) → i < n → GoesOn i vs s → Outcome model rollback need s s₁ (switch i) q
+      → ◌≡◌ {A = Result ℕ RuleFault} (Ok c) (blamed_on 0 q) → ws ≡ vs ++ c ∷ [] → GoesOn (i + 1) ws s₁
+  goes_more i c vs ws s s₁ (Err f) lt go o e w s' r h = absurd (ok_not_err e)
+  goes_more i c vs ws s s₁ (Ok d) lt go o e w s' r h =
+      let h' = subst (λ (l : List ℕ). Runs model rollback need (switching (n - (i + 1)) (i + 1) l done) s₁ s' r) (w ∙ ap (λ (x : ℕ). vs ++ x ∷ []) (ok_same {F = RuleFault} e)) h in
+      go s' r (one i vs s s' r lt (inr (d, s₁, o, h')))
 
   pub goes_refused : (i : ℕ) (g : RuleFault) (ns : List ℕ) (s s₁ : S) (q : Result ℕ StoreFault) → i < n → GoesOn i ns s → Outcome model rollback need s s₁ (switch i) q
       → ◌≡◌ {A = Result ℕ RuleFault} (Err g) (blamed_on 0 q) → Runs model rollback need (switching n 0 [] done) s₀ s₁ (Err (described g))
@@ -45,10 +45,9 @@ module _ {S : Type 0} (model : S → Model) (rollback : S → ℕ → S) (need :
   goes_refused i g ns s s₁ (Err f) lt go o e =
       go s₁ (Err (described g)) (one i ns s s₁ (Err (described g)) lt (inl (f, record { due = o.due; same = refl }, ap Err (ap described (err_same {A = ℕ} e)), o.same)))
 
-  pub goes_end : (i : ℕ) (vs : List ℕ) (s : S) → n ≤ i → i ≤ n → GoesOn i (take i vs) s → Runs model rollback need (switching n 0 [] done) s₀ s (Ok (take n vs))
-  goes_end i vs s ge le go =
-      let e : i ≡ n = omega arith in
-      go s (Ok (take n vs)) (subst (λ (j : ℕ). Runs model rollback need (switching j i (take i vs) done) s s (Ok (take n vs))) (let z : 0 ≡ n - i = omega arith in z) (ap (λ (j : ℕ). Ok (take j vs)) (sym e), refl))
+  pub goes_end : (i : ℕ) (vs : List ℕ) (s : S) → i ≡ n → GoesOn i vs s → Runs model rollback need (switching n 0 [] done) s₀ s (Ok vs)
+  goes_end i vs s e go =
+      go s (Ok vs) (subst (λ (j : ℕ). Runs model rollback need (switching j i vs done) s s (Ok vs)) (let z : 0 ≡ n - i = omega arith in z) (refl, refl))
 
 module _ {S A : Type 0} (model : S → Model) (rollback : S → ℕ → S) (need : S → Op → ℕ) (n : ℕ) (k : List ℕ → Steps A Refusal) where
   by_then : (s s' : S) (r : Result A Refusal) → Runs model rollback need (then (switching n 0 [] done) k) s s' r → Runs model rollback need (switching n 0 [] k) s s' r

@@ -16,15 +16,16 @@ use Rattle.rules.specs.Turns.{seen}
 use Rattle.lines.specs.Lines.{Line}
 use Rattle.names.specs.Names.{texts, distinct}
 use Rattle.text.specs.Tokens.{Bytes}
-use Rattle.rules.specs.declared.reading.Reading.{Reading}
+use Rattle.evaluation.specs.declared.Evaluator.{Evaluator}
+use Rattle.rules.specs.declared.entries.Switches.{Switches}
 use Rattle.rules.specs.declared.reading.Rules.{Rules}
 use Rattle.rules.specs.Ruled.{Looked, Answer, entry_of, ruled}
 
-abbrev pub names : Reading → List Bytes
-names r = texts r.switches.names.now
+abbrev pub names : Evaluator Switches → List Bytes
+names r = texts r.entries.names.now
 
-abbrev pub lookup : Reading → Looked
-lookup r = entry_of (names r) r.switches.numbers.now
+abbrev pub lookup : Evaluator Switches → Looked
+lookup r = entry_of (names r) r.entries.numbers.now
 
 abbrev pub lined : Bytes → Bytes → Line
 lined content behind = record { content = content; behind = behind }

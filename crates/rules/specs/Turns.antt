@@ -5,7 +5,8 @@
 --   Turned p .. r         the same for a whole line, which may also be the last
 --   foreign_line line l    the refusal of a line of no known kind
 --   all_known names is     every name among the steps is declared
-use Rattle.std.specs.Prelude.{ℕ, Bool, true, cond, ◌&&◌, List, [], ◌∷◌, length, is_some, Ok, Err, Result, nat_lt}
+use Rattle.std.specs.Prelude.{ℕ, Bool, true, cond, List, length, is_some, Some, None, Ok, Err, Option, Result, nat_lt}
+use Rattle.std.specs.List.{list_all}
 use Rattle.faults.specs.declared.Refusal.{Refusal}
 use Rattle.stores.specs.Model.{Model}
 use Rattle.stores.specs.Outcome.{Op}
@@ -16,8 +17,6 @@ use Rattle.text.specs.Tokens.{Bytes}
 use Rattle.expressions.specs.Conditions.{Item, false-item, true-item, not-item, and_item, or-item, name_item}
 use Rattle.rulelines.specs.declared.fault.RuleFault.{RuleFault}
 use Rattle.rulelines.specs.declared.fault.RuleFault.TheVariants.{Store, Expression}
-use Rattle.rules.specs.declared.reading.Turn.{Turn}
-use Rattle.rules.specs.declared.reading.Turn.TheVariants.{Next, Last}
 use Rattle.expressions.specs.declared.fault.ExpressionFault.TheVariants.{LineTooLong}
 use Rattle.rulelines.specs.Faults.{described, declarations}
 use Rattle.rules.specs.Ruled.{Answer}
@@ -38,9 +37,9 @@ Goes {S} model rollback need p s s₁ (Ok d) =
     (next : NextSteps) (s₂ : S) (r : Result Answer Refusal) → Runs model rollback need (next d) s₁ s₂ r → Runs model rollback need (p next) s s₂ r
 Goes model rollback need p s s₁ (Err f) = (next : NextSteps) → Runs model rollback need (p next) s s₁ (Err (described f))
 
-abbrev pub Turned : {S : Type 0} → (S → Model) → (S → ℕ → S) → (S → Op → ℕ) → (NextSteps → Steps Answer Refusal) → ℕ → Bytes → S → S → Result Turn RuleFault → Type 0
-Turned model rollback need p acc behind s s₁ (Ok (Next d)) = Goes model rollback need p s s₁ (Ok d)
-Turned model rollback need p acc behind s s₁ (Ok Last) = (next : NextSteps) → Runs model rollback need (p next) s s₁ (Ok (acc, behind))
+abbrev pub Turned : {S : Type 0} → (S → Model) → (S → ℕ → S) → (S → Op → ℕ) → (NextSteps → Steps Answer Refusal) → ℕ → Bytes → S → S → Result (Option ℕ) RuleFault → Type 0
+Turned model rollback need p acc behind s s₁ (Ok (Some d)) = Goes model rollback need p s s₁ (Ok d)
+Turned model rollback need p acc behind s s₁ (Ok None) = (next : NextSteps) → Runs model rollback need (p next) s s₁ (Ok (acc, behind))
 Turned model rollback need p acc behind s s₁ (Err f) = Goes model rollback need p s s₁ (Err f)
 
 abbrev pub foreign_line : Bytes → ℕ → Refusal
@@ -55,5 +54,4 @@ known_item names or-item = true
 known_item names (name_item x) = is_some (index_of names x)
 
 abbrev pub all_known : List Bytes → List Item → Bool
-all_known names [] = true
-all_known names (i ∷ is) = known_item names i && all_known names is
+all_known names is = list_all (known_item names) is

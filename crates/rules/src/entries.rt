@@ -6,22 +6,18 @@ ghost use Rattle.rules.specs.Ruled.{entry_of};
 use evaluation::Entries;
 use names::index_of;
 
-// The switches' names, and the numbers of their sets, in the same order.
+// The switches' names, and the numbers of their sets, in the same order. Two lists, since the names are the caller's: pairs would need a copy of them.
 #[derive(Clone, Copy)]
-pub struct Switches<'n, 't, 'k> {
-    pub names: &'n [&'t [u8]],
-    pub numbers: &'k [u32],
+pub struct Switches<'a> {
+    pub names: &'a [&'a [u8]],
+    pub numbers: &'a [u32],
 }
 
-impl<'n, 't, 'k> Entries for Switches<'n, 't, 'k> {
+impl<'a> Entries for Switches<'a> {
     ghost lookup = { λ s. entry_of (texts s.names.now) s.numbers.now };
 
     fn get(&self, name: &[u8]) -> Option<u32> {
         let i = index_of(self.names, name)?;
-        if i < self.numbers.len() {
-            Some(self.numbers[i])
-        } else {
-            None
-        }
+        self.numbers.get(i).copied()
     }
 }

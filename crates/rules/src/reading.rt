@@ -1,10 +1,10 @@
 // Reading `rule` lines over a store.
-ghost use Rattle.std.specs.Prelude.{◌≡◌, ℕ, ◌<◌, false, ◌&&◌, List, [], length, take, IfOk, ◌==◌};
+ghost use Rattle.std.specs.Prelude.{◌≡◌, ℕ, ◌<◌, false, ◌&&◌, List, [], length, IfOk, ◌==◌};
+ghost use Rattle.std.specs.List.{list_all};
 ghost use Rattle.stores.specs.Outcome.{Advanced};
 ghost use Rattle.names.specs.Names.{texts, distinct};
-ghost use Rattle.evaluation.specs.Worked.{steps_of};
 ghost use Rattle.rules.specs.Read.{names as names_of, lookup as lookup_of};
-ghost use Rattle.rules.specs.Turns.{blamed_on, Goes, Turned, seen, known_item, all_known, foreign_line};
+ghost use Rattle.rules.specs.Turns.{blamed_on, Goes, Turned, seen, known_item, foreign_line};
 ghost use Rattle.stores.specs.Steps.{Runs, done};
 ghost use Rattle.lines.specs.Lines.{lines_of};
 ghost use Rattle.rulelines.specs.Faults.{described};
@@ -18,8 +18,9 @@ ghost use Rattle.rules.specs.Read.{RulesOutcome};
 ghost use Rattle.evaluation.specs.Meaning.{Denotes};
 
 use crate::entries::Switches;
-use evaluation::{Constants, work_out};
-use expressions::condition::{Condition, MAX_LINE, Step, name_at};
+use arrayvec::ArrayVec;
+use evaluation::{Constants, Evaluator};
+use expressions::condition::{MAX_LINE, Step, name_at};
 use expressions::fault::ExpressionFault;
 use expressions::line::{nothing, only_name};
 use lines::first_line;
@@ -30,11 +31,12 @@ use rulelines::kind::{LineKind, kind_of};
 use stores::fault::StoreFault;
 use stores::{MAX_SWITCHES, Store};
 
-// What a line leaves: the number of what the rules so far allow, or that the lines are over.
+// Rule lines behind the `switch` lines: the switches' names in order, the text, and how many lines stand before it.
 #[derive(Clone, Copy)]
-enum Turn {
-    Next(u32),
-    Last,
+pub struct RuleLines<'n, 'a> {
+    pub names: &'n [&'n [u8]],
+    pub text: &'a [u8],
+    pub lines: usize,
 }
 
 // What the rules leave: the number of the allowed configurations that satisfy them all, and the text behind `begin`.
@@ -48,10 +50,7 @@ pub struct Rules<'a> {
 fn on_line(answer: Result<u32, StoreFault>, line: usize) -> Result<u32, RuleFault>
     ensures { result ≡ blamed_on line answer }
 {
-    match answer {
-        Ok(number) => Ok(number),
-        Err(fault) => Err(RuleFault::Store { fault, line }),
-    }
+    answer.map_err(|fault| RuleFault::Store { fault, line })
 }
 
 // Is the step no name, or a declared one?
@@ -64,47 +63,33 @@ fn is_declared(line: &[u8], step: Step, names: &[&[u8]]) -> bool
     }
 }
 
-// Is every name of the condition declared?
-fn all_declared(condition: &Condition<'_>, names: &[&[u8]]) -> bool
-    ensures { result ≡ all_known (texts names.now) (steps_of condition.now) }
+// Is every name among the steps declared?
+fn all_declared(line: &[u8], steps: &[Step], names: &[&[u8]]) -> bool
+    ensures { result ≡ list_all (λ step. known_item (texts names.now) (item_at line.now step)) steps.now }
 {
-    let line = condition.line();
-    for step in condition.steps() {
-        if !is_declared(line, *step, names) {
-            return false;
-        }
-    }
-    true
+    steps.iter().all(|step| is_declared(line, *step, names))
 }
 
 // What every line is read with: the declared switches, and the numbers that stand for none and all of the allowed configurations.
-#[derive(Clone, Copy)]
-struct Reading<'n, 't, 'k> {
-    pub switches: Switches<'n, 't, 'k>,
-    pub known: Constants,
-}
+type Reading<'a> = Evaluator<Switches<'a>>;
 
 // Takes from what is allowed so far, `acc`, what the rule behind offset `from` of the line does not allow.
 fn apply_rule<S: Store>(
-    reading: Reading<'_, '_, '_>,
+    reading: Reading<'_>,
     line: &[u8],
     from: usize,
     number: usize,
     acc: u32,
     store: &mut S,
 ) -> Result<u32, RuleFault>
-    requires { S.valid store.old }
-    ensures advanced { Advanced S.valid S.model S.rollback store.old store.new }
+    ensures advanced { Advanced S.model S.rollback store.old store.new }
     ensures goes { Goes S.model S.rollback S.need (λ next. rule (names_of reading.entry) (lookup_of reading.entry) reading.entry.known.none reading.entry.known.top acc number next (read_in line.now number (condition_at false line.now from))) store.old store.new result }
 {
     let rule = condition(line, from, false, number)?;
-    if !all_declared(&rule, reading.switches.names) {
+    if !all_declared(rule.line(), rule.steps(), reading.entries.names) {
         return Err(RuleFault::Undeclared { line: number });
     }
-    let set = on_line(
-        work_out(&rule, &reading.switches, reading.known, store),
-        number,
-    )?;
+    let set = on_line(reading.work_out(&rule, store), number)?;
     on_line(store.both(acc, set), number)
 }
 
@@ -118,27 +103,26 @@ fn foreign(line: &[u8], number: usize) -> RuleFault
     RuleFault::Misplaced { line: number }
 }
 
-// Reads one line, with `acc` what is allowed so far.
+// Reads one line, with `acc` what is allowed so far. The answer is what is allowed then; none where the lines are over.
 fn read_line<S: Store>(
-    reading: Reading<'_, '_, '_>,
+    reading: Reading<'_>,
     line: &[u8],
     number: usize,
     acc: u32,
     store: &mut S,
-) -> Result<Turn, RuleFault>
-    requires { S.valid store.old }
-    ensures advanced { Advanced S.valid S.model S.rollback store.old store.new }
+) -> Result<Option<u32>, RuleFault>
+    ensures advanced { Advanced S.model S.rollback store.old store.new }
     ensures turned { (behind : List ℕ) → Turned S.model S.rollback S.need (by_kind (kind_of line.now) (names_of reading.entry) (lookup_of reading.entry) reading.entry.known.none reading.entry.known.top acc number (lined line.now behind)) acc behind store.old store.new result }
 {
     match kind_of(line) {
-        LineKind::Blank => Ok(Turn::Next(acc)),
+        LineKind::Blank => Ok(Some(acc)),
         LineKind::Rule { behind } => {
             let set = apply_rule(reading, line, behind, number, acc, store)?;
-            Ok(Turn::Next(set))
+            Ok(Some(set))
         }
         LineKind::Begin { behind } => {
             nothing(line, behind, false, number)?;
-            Ok(Turn::Last)
+            Ok(None)
         }
         LineKind::Switch { behind } => {
             only_name(line, behind, false, number)?;
@@ -150,13 +134,12 @@ fn read_line<S: Store>(
 
 // Reads lines up to `begin`; `lines` stand before the first.
 fn read_lines<'a, S: Store>(
-    reading: Reading<'_, '_, '_>,
+    reading: Reading<'_>,
     text: &'a [u8],
     lines: usize,
     store: &mut S,
 ) -> Result<Rules<'a>, RuleFault>
-    requires { S.valid store.old }
-    ensures advanced { Advanced S.valid S.model S.rollback store.old store.new }
+    ensures advanced { Advanced S.model S.rollback store.old store.new }
     ensures runs { Runs S.model S.rollback S.need (ruling (names_of reading.entry) (lookup_of reading.entry) reading.entry.known.none reading.entry.known.top reading.entry.known.top lines (lines_of text.now)) store.old store.new (seen answer_of result) }
 {
     let mut allowed = reading.known.top;
@@ -166,8 +149,8 @@ fn read_lines<'a, S: Store>(
         let (line, behind) = first_line(rest);
         number = number.saturating_add(1);
         match read_line(reading, line, number, allowed, store)? {
-            Turn::Next(set) => allowed = set,
-            Turn::Last => return Ok(Rules {
+            Some(set) => allowed = set,
+            None => return Ok(Rules {
                 allowed,
                 rest: behind,
             }),
@@ -177,41 +160,36 @@ fn read_lines<'a, S: Store>(
     Err(RuleFault::NoBegin)
 }
 
-// The numbers of all switches, in order; as many as the store has.
-fn switch_numbers<S: Store>(store: &mut S) -> Result<[u32; MAX_SWITCHES], RuleFault>
-    requires { S.valid store.old }
-    ensures advanced { Advanced S.valid S.model S.rollback store.old store.new }
-    ensures runs { Runs S.model S.rollback S.need (switching (S.model store.old).n 0 [] done) store.old store.new (seen (take (S.model store.old).n) result) }
+// The numbers of all switches, in order.
+fn switch_numbers<S: Store>(store: &mut S) -> Result<ArrayVec<u32, MAX_SWITCHES>, RuleFault>
+    ensures advanced { Advanced S.model S.rollback store.old store.new }
+    ensures runs { Runs S.model S.rollback S.need (switching (S.model store.old).n 0 [] done) store.old store.new (seen (λ v. v.items) result) }
 {
-    let mut numbers = [0; MAX_SWITCHES];
+    let mut numbers = ArrayVec::new();
     for i in 0..store.switches() {
-        numbers[i as usize] = on_line(store.switch(i), 0)?;
+        numbers.push(on_line(store.switch(i), 0)?);
     }
     Ok(numbers)
 }
 
 // The reading itself, which may be refused with numbers still held.
 fn gather<'a, S: Store>(
-    names: &[&[u8]],
-    text: &'a [u8],
-    lines: usize,
+    rules: RuleLines<'_, 'a>,
     known: Constants,
     store: &mut S,
 ) -> Result<Rules<'a>, RuleFault>
-    requires valid { S.valid store.old }
-    ensures advanced { Advanced S.valid S.model S.rollback store.old store.new }
-    ensures runs { Runs S.model S.rollback S.need (ruled (texts names.now) (S.model store.old).n known.none known.top lines text.now) store.old store.new (seen answer_of result) }
+    ensures advanced { Advanced S.model S.rollback store.old store.new }
+    ensures runs { Runs S.model S.rollback S.need (ruled (texts rules.entry.names.now) (S.model store.old).n known.none known.top rules.entry.lines rules.entry.text.now) store.old store.new (seen answer_of result) }
 {
-    let count = store.switches() as usize;
     let numbers = switch_numbers(store)?;
-    let reading = Reading {
-        switches: Switches {
-            names,
-            numbers: &numbers[0..count],
+    let reading = Evaluator {
+        entries: Switches {
+            names: rules.names,
+            numbers: numbers.as_slice(),
         },
         known,
     };
-    read_lines(reading, text, lines, store)
+    read_lines(reading, rules.text, rules.lines, store)
 }
 
 // Is there one name for each of `n` switches, and are no two alike?
@@ -221,20 +199,16 @@ fn names_fit(names: &[&[u8]], n: u32) -> bool
     names.len() == n as usize && all_distinct(names)
 }
 
-// Reads the lines behind the `switch` lines, of which `lines` stand before `text`. The names are the switches', in order.
-// Refused, the store is as it was; else it holds the answer's number.
+// Reads the lines behind the `switch` lines. Refused, the store is as it was; else it holds the answer's number.
 pub fn read_rules<'a, S: Store>(
-    names: &[&[u8]],
-    text: &'a [u8],
-    lines: usize,
+    rules: RuleLines<'_, 'a>,
     store: &mut S,
 ) -> Result<Rules<'a>, RuleFault>
-    requires { S.valid store.old }
-    ensures advanced { Advanced S.valid S.model S.rollback store.old store.new }
-    ensures outcome { RulesOutcome S.model S.rollback S.need (texts names.now) lines text.now store.old store.new result }
-    ensures allowed { IfOk result (λ rules. Denotes (S.model store.new) rules.allowed (allowed_by (S.model store.old).allowed (texts names.now) (lines_of text.now))) }
+    ensures advanced { Advanced S.model S.rollback store.old store.new }
+    ensures outcome { RulesOutcome S.model S.rollback S.need (texts rules.entry.names.now) rules.entry.lines rules.entry.text.now store.old store.new result }
+    ensures allowed { IfOk result (λ read. Denotes (S.model store.new) read.allowed (allowed_by (S.model store.old).allowed (texts rules.entry.names.now) (lines_of rules.entry.text.now))) }
 {
-    if !names_fit(names, store.switches()) {
+    if !names_fit(rules.names, store.switches()) {
         return Err(RuleFault::Names);
     }
     let known = Constants {
@@ -242,10 +216,10 @@ pub fn read_rules<'a, S: Store>(
         top: store.top(),
     };
     let mark = store.mark();
-    match gather(names, text, lines, known, store) {
-        Ok(rules) => {
+    match gather(rules, known, store) {
+        Ok(read) => {
             store.keep(mark);
-            Ok(rules)
+            Ok(read)
         }
         Err(fault) => {
             store.release(mark);

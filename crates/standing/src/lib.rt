@@ -14,8 +14,7 @@ use stores::fault::StoreFault;
 use verdict::Standing;
 
 fn judge<S: Store>(store: &mut S, top: u32, i: u32) -> Result<Standing, StoreFault>
-    requires { S.valid store.old }
-    ensures advanced { Advanced S.valid S.model S.rollback store.old store.new }
+    ensures advanced { Advanced S.model S.rollback store.old store.new }
     ensures runs { Runs S.model S.rollback S.need (asking top i) store.old store.new result }
 {
     let with = store.switch(i)?;
@@ -31,7 +30,6 @@ fn judge<S: Store>(store: &mut S, top: u32, i: u32) -> Result<Standing, StoreFau
 
 // How switch `i` stands. The store is as before, whether answered or refused.
 pub fn standing<S: Store>(store: &mut S, i: u32) -> Result<Standing, StoreFault>
-    requires { S.valid store.old }
     ensures same { store.new ≡ store.old }
     ensures stands { IfOk result (Stands (S.model store.old).allowed i) }
     ensures asked { (top : ℕ) × (top < (S.model store.old).floor) × (set_at (S.model store.old) top ≡ (S.model store.old).allowed) × StandingOutcome S.model S.rollback S.need top i store.old result }

@@ -13,8 +13,8 @@ returns-in_err-with g c =
     let e = c.in_err-with.ensures in
     let p = err_from_is_err_and c.from_residual.result c.from_residual.ensures.1 in
     record {
-      advanced = advanced_op s.rollback_laws s.need (switch c.args.i) (Err c.in_err-with.field-0.0) c.requires e.valid e.outcome;
-      runs = no_switch s.model s.rollback s.need c.args.top c.args.i c.args.store.now c.switch.new.self _ c.from_residual.result e.outcome (p.1 ∙ ap Err p.2);
+      advanced = advanced_op s.rollback_laws s.need (switch c.args.i) (Err c.in_err-with.field-0.0) e;
+      runs = no_switch s.model s.rollback s.need c.args.top c.args.i c.args.store.now c.switch.new.self _ c.from_residual.result e (p.1 ∙ ap Err p.2);
     }
 
 pub returns-then-is_none : goal.returns-then-is_none
@@ -23,8 +23,8 @@ returns-then-is_none g c =
     let e = c.in_ok-with.ensures in
     let x = c.in_ok-with.with in
     record {
-      advanced = advanced_op s.rollback_laws s.need (switch c.args.i) (Ok x) c.requires e.valid e.outcome;
-      runs = never_on s.model s.rollback s.need c.args.top c.args.i c.args.store.now c.switch.new.self x e.outcome
+      advanced = advanced_op s.rollback_laws s.need (switch c.args.i) (Ok x) e;
+      runs = never_on s.model s.rollback s.need c.args.top c.args.i c.args.store.now c.switch.new.self x e
           (found_none (set_at (s.model c.switch.new.self) x) c.in_ok-find.field-0 c.if-is_none.ensures c.in_ok-find.ensures.1);
     }
 
@@ -36,10 +36,10 @@ returns-in_err-without g c =
     let x = c.in_ok-with.with in
     let p = err_from_is_err_and c.from_residual-in_err-without.result c.from_residual-in_err-without.ensures.1 in
     record {
-      advanced = advanced_trans s.rollback_laws (advanced_op s.rollback_laws s.need (switch c.args.i) (Ok x) c.requires e.valid e.outcome)
-          (advanced_op s.rollback_laws s.need (less c.args.top x) (Err c.in_err-without.field-0.0) e.valid d.valid d.outcome);
-      runs = no_room s.model s.rollback s.need c.args.top c.args.i c.args.store.now c.switch.new.self c.less.new.self x _ c.from_residual-in_err-without.result e.outcome
-          (found_some (set_at (s.model c.switch.new.self) x) c.in_ok-find.field-0 c.if-is_none.ensures c.in_ok-find.ensures.1) d.outcome (p.1 ∙ ap Err p.2);
+      advanced = advanced_trans s.rollback_laws (advanced_op s.rollback_laws s.need (switch c.args.i) (Ok x) e)
+          (advanced_op s.rollback_laws s.need (less c.args.top x) (Err c.in_err-without.field-0.0) d);
+      runs = no_room s.model s.rollback s.need c.args.top c.args.i c.args.store.now c.switch.new.self c.less.new.self x _ c.from_residual-in_err-without.result e
+          (found_some (set_at (s.model c.switch.new.self) x) c.in_ok-find.field-0 c.if-is_none.ensures c.in_ok-find.ensures.1) d (p.1 ∙ ap Err p.2);
     }
 
 pub returns-then-is_none-2 : goal.returns-then-is_none-2
@@ -50,10 +50,10 @@ returns-then-is_none-2 g c =
     let x = c.in_ok-with.with in
     let y = c.in_ok-without.without in
     record {
-      advanced = advanced_trans s.rollback_laws (advanced_op s.rollback_laws s.need (switch c.args.i) (Ok x) c.requires e.valid e.outcome)
-          (advanced_op s.rollback_laws s.need (less c.args.top x) (Ok y) e.valid d.valid d.outcome);
-      runs = always_on s.model s.rollback s.need c.args.top c.args.i c.args.store.now c.switch.new.self c.less.new.self x y e.outcome
-          (found_some (set_at (s.model c.switch.new.self) x) c.in_ok-find.field-0 c.if-is_none.ensures c.in_ok-find.ensures.1) d.outcome
+      advanced = advanced_trans s.rollback_laws (advanced_op s.rollback_laws s.need (switch c.args.i) (Ok x) e)
+          (advanced_op s.rollback_laws s.need (less c.args.top x) (Ok y) d);
+      runs = always_on s.model s.rollback s.need c.args.top c.args.i c.args.store.now c.switch.new.self c.less.new.self x y e
+          (found_some (set_at (s.model c.switch.new.self) x) c.in_ok-find.field-0 c.if-is_none.ensures c.in_ok-find.ensures.1) d
           (found_none (set_at (s.model c.less.new.self) y) c.in_ok-find-2.field-0 c.if-is_none-2.ensures c.in_ok-find-2.ensures.1);
     }
 
@@ -65,9 +65,9 @@ returns g c =
     let x = c.in_ok-with.with in
     let y = c.in_ok-without.without in
     record {
-      advanced = advanced_trans s.rollback_laws (advanced_op s.rollback_laws s.need (switch c.args.i) (Ok x) c.requires e.valid e.outcome)
-          (advanced_op s.rollback_laws s.need (less c.args.top x) (Ok y) e.valid d.valid d.outcome);
-      runs = either_way s.model s.rollback s.need c.args.top c.args.i c.args.store.now c.switch.new.self c.less.new.self x y e.outcome
-          (found_some (set_at (s.model c.switch.new.self) x) c.in_ok-find.field-0 c.if-is_none.ensures c.in_ok-find.ensures.1) d.outcome
+      advanced = advanced_trans s.rollback_laws (advanced_op s.rollback_laws s.need (switch c.args.i) (Ok x) e)
+          (advanced_op s.rollback_laws s.need (less c.args.top x) (Ok y) d);
+      runs = either_way s.model s.rollback s.need c.args.top c.args.i c.args.store.now c.switch.new.self c.less.new.self x y e
+          (found_some (set_at (s.model c.switch.new.self) x) c.in_ok-find.field-0 c.if-is_none.ensures c.in_ok-find.ensures.1) d
           (found_some (set_at (s.model c.less.new.self) y) c.in_ok-find-2.field-0 c.if-is_none-2.ensures c.in_ok-find-2.ensures.1);
     }

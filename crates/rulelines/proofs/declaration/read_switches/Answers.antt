@@ -1,36 +1,29 @@
-use Rattle.std.proofs.Common.{length, Err, vec_items, Result, sym, ap, ◌∙◌, subst}
-use Rattle.std.proofs.lemmas.Result.{err_from_is_err_and}
+use Rattle.std.proofs.Common.{◌≡◌, List, length, vec_items, sym, ap, ◌∙◌, subst}
+use Rattle.lines.specs.Lines.{lines_of}
 use Rattle.names.specs.Names.{texts}
+use Rattle.text.specs.Tokens.{Bytes}
 use Rattle.rulelines.specs.declared.declaration.Declarations.{Declarations}
-use Rattle.rulelines.specs.declared.declaration.DeclarationFault.{DeclarationFault}
-use Rattle.rulelines.specs.Declarations.{DeclarationsOutcome}
-use Rattle.rulelines.proofs.Empty.{not_empty, is_empty}
-use Rattle.rulelines.proofs.Naming.{blank_turn, switch_turn, declared_end, texts_more}
+use Rattle.rulelines.specs.Declaring.{declared, declared_in}
+use Rattle.rulelines.proofs.Empty.{not_empty}
+use Rattle.rulelines.proofs.Naming.{blank_turn, switch_turn, texts_more}
 use Rattle.rulelines.proofs.declaration.read_switches.Goals as goal
-
-pub returns-in_err-push-in-Switch : goal.returns-in_err-push-in-Switch
-returns-in_err-push-in-Switch c =
-    let p = err_from_is_err_and c.from_residual-in_err-push-in-Switch.result c.from_residual-in_err-push-in-Switch.ensures.1 in
-    subst (λ (r : Result Declarations DeclarationFault). DeclarationsOutcome c.args.text.now r) (sym (p.1 ∙ ap Err p.2)) tt
+use Rattle.rulelines.proofs.declaration.read_switches.Goals.{in-Blank, in-Switch+in_ok-name-in-Switch+in_ok-push-in-Switch}
 
 pub loop-line-preserved : goal.loop-line-preserved
 loop-line-preserved c =
-    let l = c.loop-line in
+    let d = c.loop-line.declared in
+    let names = vec_items d.names in
     let f = c.first_line in
-    let names = vec_items l.names in
-    let x = c.in_ok-name-in-Switch.name in
-    sym (switch_turn (texts names) l.lines c.saturating_add-number.result l.rest.now f.result.0.now f.result.1.now (f.ensures.first (not_empty (length l.rest.now) c.loop-line-test.ensures)) f.ensures.content f.ensures.behind c.saturating_add-number.ensures
-    c.in-Switch.from x.now (texts c.as_slice.result.now) (texts (vec_items c.push.new.self)) c.in-Switch.ensures (ap texts c.as_slice.ensures.value) c.in_ok-name-in-Switch.ensures (texts_more names (vec_items c.push.new.self) x c.in_ok-push-in-Switch.ensures.items))
-    ∙ l.invariant
-
-pub loop-line-preserved-in-Blank : goal.loop-line-preserved-in-Blank
-loop-line-preserved-in-Blank c =
-    let l = c.loop-line in
-    let f = c.first_line in
-    sym (blank_turn (texts (vec_items l.names)) l.lines c.saturating_add-number.result l.rest.now f.result.0.now f.result.1.now (f.ensures.first (not_empty (length l.rest.now) c.loop-line-test.ensures)) f.ensures.content f.ensures.behind c.saturating_add-number.ensures c.in-Blank.ensures)
-    ∙ l.invariant
-
-pub returns : goal.returns
-returns c =
-    let l = c.loop-line in
-    sym l.invariant ∙ declared_end (texts (vec_items l.names)) l.lines l.rest.now (is_empty (length l.rest.now) c.loop-line-test.ensures)
+    let n = c.saturating_add-number in
+    let first = f.ensures.first (not_empty (length d.rest.now) c.loop-line-test.ensures) in
+    let P : List Bytes → Type 0 = λ ns. declared ns n.result f.result.1.now (lines_of f.result.1.now) ≡ declared_in c.args.text.now in
+    let named : Declarations → List Bytes = λ e. texts (vec_items e.names) in
+    elim c.match-kind_of.branch [
+      in-Blank w ↦ subst P (ap named (sym w.declared-is)) (sym (blank_turn (texts names) d.lines n.result d.rest.now f.result.0.now f.result.1.now first f.ensures.content f.ensures.behind n.ensures w.in-Blank.ensures) ∙ c.loop-line.invariant)
+      | in-Switch+in_ok-name-in-Switch+in_ok-push-in-Switch w ↦
+        let x = w.in_ok-name-in-Switch.name in
+        subst P (ap named (sym w.declared-is))
+            (sym (switch_turn (texts names) d.lines n.result d.rest.now f.result.0.now f.result.1.now first f.ensures.content f.ensures.behind n.ensures
+            w.in-Switch.from x.now (texts w.as_slice.result.now) (texts (vec_items w.push.new.self)) w.in-Switch.ensures (ap texts w.as_slice.ensures.value) w.in_ok-name-in-Switch.ensures (texts_more names (vec_items w.push.new.self) x w.in_ok-push-in-Switch.ensures.items))
+            ∙ c.loop-line.invariant)
+    ]

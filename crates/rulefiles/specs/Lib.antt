@@ -1,2 +1,0 @@
-pub mod Judgements
-pub mod Refused
