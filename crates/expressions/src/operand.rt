@@ -1,9 +1,8 @@
 // Reading from a line: its tokens, and, where no condition may stand, one name, a name and whatever is behind it, or nothing.
-ghost use Rattle.std.specs.Prelude.{◌≡◌, ◌-◌, ◌<◌, ◌≤◌, length, take, drop, IfOk, MatchResult, Err};
-ghost use Rattle.text.specs.Tokens.{tokens_at};
+ghost use Rattle.std.specs.Prelude.{◌≡◌, ◌-◌, ◌<◌, length, take, drop, IfOk, MatchResult};
 ghost use Rattle.text.specs.Pulling.{left};
-ghost use Rattle.expressions.specs.declared.fault.ExpressionFault.TheVariants.{LineTooLong};
 ghost use Rattle.expressions.specs.Conditions.{only_name, first_name, nothing_at};
+ghost use Rattle.expressions.specs.Operands.{tokens_in, Short, RefusesLong};
 ghost use Rattle.expressions.specs.Answers.{Named, Empty};
 
 use crate::condition::MAX_LINE;
@@ -22,9 +21,9 @@ pub struct Operand<'a> {
 impl<'a> Operand<'a> {
     // The tokens there, unless the line is too long.
     pub fn tokens(self) -> Result<Tokens<'a>, ExpressionFault>
-        ensures long { 255 < length self.entry.line.now → result ≡ Err (LineTooLong self.entry.number) }
-        ensures short { MatchResult result (λ t. length self.entry.line.now ≤ 255) (λ f. 255 < length self.entry.line.now) }
-        ensures left { IfOk result (λ t. left t ≡ tokens_at self.entry.comments self.entry.line.now self.entry.from) }
+        ensures long { RefusesLong self.entry result }
+        ensures short { MatchResult result (λ t. Short self.entry) (λ f. 255 < length self.entry.line.now) }
+        ensures left { IfOk result (λ t. left t ≡ tokens_in self.entry) }
         ensures line { IfOk result (λ t. t.line ≡ self.entry.line) }
     {
         if self.line.len() > MAX_LINE {
@@ -36,8 +35,8 @@ impl<'a> Operand<'a> {
 
     // The one name that stands there.
     pub fn only_name(self) -> Result<Part<'a>, ExpressionFault>
-        ensures long { 255 < length self.entry.line.now → result ≡ Err (LineTooLong self.entry.number) }
-        ensures reads { length self.entry.line.now ≤ 255 → Named self.entry.line.now (tokens_at self.entry.comments self.entry.line.now self.entry.from) self.entry.number (only_name self.entry.comments self.entry.line.now self.entry.from) result }
+        ensures long { RefusesLong self.entry result }
+        ensures reads { let o = self.entry in Short o → Named o.line.now (tokens_in o) o.number (only_name o.comments o.line.now o.from) result }
         ensures part { IfOk result (λ p. p.text.now ≡ take (length p.text.now) (drop (p.at - 1) self.entry.line.now)) }
     {
         let mut tokens = self.tokens()?;
@@ -52,8 +51,8 @@ impl<'a> Operand<'a> {
 
     // The name that stands first there, whatever is behind it.
     pub fn first_name(self) -> Result<Part<'a>, ExpressionFault>
-        ensures long { 255 < length self.entry.line.now → result ≡ Err (LineTooLong self.entry.number) }
-        ensures reads { length self.entry.line.now ≤ 255 → Named self.entry.line.now (tokens_at self.entry.comments self.entry.line.now self.entry.from) self.entry.number (first_name self.entry.comments self.entry.line.now self.entry.from) result }
+        ensures long { RefusesLong self.entry result }
+        ensures reads { let o = self.entry in Short o → Named o.line.now (tokens_in o) o.number (first_name o.comments o.line.now o.from) result }
         ensures part { IfOk result (λ p. p.text.now ≡ take (length p.text.now) (drop (p.at - 1) self.entry.line.now)) }
     {
         let mut tokens = self.tokens()?;
@@ -65,8 +64,8 @@ impl<'a> Operand<'a> {
 
     // That nothing stands there.
     pub fn nothing(self) -> Result<(), ExpressionFault>
-        ensures long { 255 < length self.entry.line.now → result ≡ Err (LineTooLong self.entry.number) }
-        ensures reads { length self.entry.line.now ≤ 255 → Empty self.entry.number (nothing_at self.entry.comments self.entry.line.now self.entry.from) result }
+        ensures long { RefusesLong self.entry result }
+        ensures reads { let o = self.entry in Short o → Empty o.number (nothing_at o.comments o.line.now o.from) result }
     {
         let mut tokens = self.tokens()?;
         match tokens.next() {

@@ -1,5 +1,5 @@
 -- A whole line: its parser at first, and what its answer says of the definitions and of the grammar.
-use Rattle.std.proofs.Common.{◌≡◌, ℕ, suc, ◌-◌, ◌≤◌, true, false, List, [], ◌∷◌, ◌++◌, length, take, drop, Ok, Err, Result, sym, refl, ap, ◌∙◌, subst, ap₂, arith, length-append}
+use Rattle.std.proofs.Common.{Bor, ◌+◌, ◌≡◌, ℕ, suc, ◌-◌, ◌≤◌, true, false, List, [], ◌∷◌, ◌++◌, length, take, drop, Ok, Err, Result, sym, refl, ap, ◌∙◌, subst, ap₂, arith, length-append}
 use Rattle.text.specs.Tokens.{Bytes, Tok, Placed, tokens_at}
 use Rattle.text.specs.Pulling.{placed, place, bytes, left, Pulls}
 use Rattle.text.specs.declared.scanner.Token.{Token}
@@ -8,7 +8,8 @@ use Rattle.expressions.specs.Grammar.{Expr, expr, finished, parsed}
 use Rattle.expressions.specs.Derived.{GoesOn, Stops, Number}
 use Rattle.expressions.specs.Conditions.{kinds, place_or, located, Item, items, postfix}
 use Rattle.expressions.specs.Faults.{refused, described}
-use Rattle.parser.specs.Parsing.{ahead, line_of, written, Begun, Refused, Outcome, Completed}
+use Rattle.parser.specs.Ahead.{from}
+use Rattle.parser.specs.Parsing.{ahead, line_of, written, Refused, Outcome, Completed}
 use Rattle.expressions.specs.Answers.{Answered, Conforms}
 use Rattle.expressions.specs.declared.condition.Step.{Step}
 use Rattle.expressions.specs.declared.operand.Operand.{Operand}
@@ -23,32 +24,24 @@ use Rattle.parser.proofs.Parts.{here, later, was_read, was_refused}
 use Rattle.parser.proofs.Loops.{length_kinds}
 use Rattle.parser.proofs.Moves.{none_left}
 
--- the parser behind its first token
+-- the first token t of an operand
 module _ (o : Operand) (tk₀ tk : Tokens) (t : Token) (v : ArrayVec Step) (few : length o.line.now ≤ 255) (none : v.items ≡ [])
-    (all : left tk₀ ≡ tokens_at o.comments o.line.now o.from) (line₀ : tk₀.line ≡ o.line) (line₁ : tk.line ≡ tk₀.line)
-    (pulls : Pulls (placed t) (left tk₀) (left tk)) (at : place t ≡ place_or (suc (length tk₀.line.now)) (left tk₀))
-    (part : bytes t ≡ take (length (bytes t)) (drop (place t - 1) tk₀.line.now)) where
-  abbrev fresh : Parser
-  fresh = record { tokens = tk; token = t; number = o.number; steps = v }
-
-  first_ahead : ahead fresh ≡ left tk₀
+    (all : left tk₀ ≡ tokens_at o.comments o.line.now o.from) (line₁ : tk.line ≡ tk₀.line)
+    (pulls : Pulls (placed t) (left tk₀) (left tk)) where
+  first_ahead : from t tk ≡ left tk₀
   first_ahead = pulled (placed t) (left tk₀) (left tk) pulls
 
-  pub fresh_begun : Begun o fresh
-  fresh_begun =
-      let bs : tk₀.line.now ≡ tk.line.now = ap (λ r. r.now) (sym line₁) in
-      let ts : ahead fresh ≡ tokens_at o.comments o.line.now o.from = first_ahead ∙ all in
-      record {
-        ready = record {
-          at = at ∙ ap₂ (λ (b : Bytes) (z : List Placed). place_or (suc (length b)) z) bs (sym first_ahead);
-          part = part ∙ ap (λ (b : Bytes). take (length (bytes t)) (drop (place t - 1) b)) bs;
-          room = omega (arith, ap length ts, ap (λ (s : List Step). length (items s)) none, tokens_length o.comments o.line.now o.from);
-        };
-        ahead = ts;
-        line = sym bs ∙ ap (λ r. r.now) line₀;
-        number = refl;
-        written = ap items none;
-      }
+  pub fresh_ahead : from t tk ≡ tokens_at o.comments o.line.now o.from
+  fresh_ahead = first_ahead ∙ all
+
+  pub fresh_at : place t ≡ place_or (suc (length tk₀.line.now)) (left tk₀) → place t ≡ place_or (suc (length tk.line.now)) (from t tk)
+  fresh_at at = at ∙ ap₂ (λ (b : Bytes) (z : List Placed). place_or (suc (length b)) z) (ap (λ r. r.now) (sym line₁)) (sym first_ahead)
+
+  pub fresh_part : bytes t ≡ take (length (bytes t)) (drop (place t - 1) tk₀.line.now) → bytes t ≡ take (length (bytes t)) (drop (place t - 1) tk.line.now)
+  fresh_part part = part ∙ ap (λ (b : Bor Bytes). take (length (bytes t)) (drop (place t - 1) b.now)) (sym line₁)
+
+  pub fresh_room : length v.items + length (from t tk) ≤ 255
+  fresh_room = omega (arith, ap length fresh_ahead, ap length none, tokens_length o.comments o.line.now o.from)
 
 -- all that is ahead
 finished_none : (e : Expr) (ps : List Placed) → none_left ps ≡ true → finished (Ok (e, kinds ps)) ≡ Ok e
@@ -71,7 +64,7 @@ module _ (p q : Parser) where
   not_ended u f o h d =
       let w = was_read postfix p q (expr 16 (kinds (ahead p))) u o in
       let k : parsed (kinds (ahead p)) ≡ Err (14, kinds (ahead q)) = ap finished (w.2 ∙ ap (λ (r : List Tok). Ok (w.0, r)) (sym w.3.rest)) ∙ finished_some w.0 (ahead q) h in
-      subst (λ (z : Result Expr (ℕ × List Tok)). Completed p q (Err f) z) (sym k) (later w.3.run (here q f 14 w.3.ready d))
+      subst (λ (z : Result Expr (ℕ × List Tok)). Completed p q (Err f) z) (sym k) (later w.3.run (here q f 14 d))
 
   pub not_read : (y : Result (Unit {0}) ExpressionFault) (f : ExpressionFault) → y ≡ Err f → Outcome postfix p q (Err f) (expr 16 (kinds (ahead p)))
       → Completed p q y (parsed (kinds (ahead p)))
@@ -121,20 +114,20 @@ module _ (l : Bytes) (ts : List Placed) (n : ℕ) (p q : Parser) (tokens : ahead
     abbrev at-token : (m : ℕ) × (r : List Tok) × (parsed (kinds (ahead p)) ≡ Err (m, r)) × Refused p f m r
     at-token = stopped (parsed (kinds (ahead p))) o
 
-    split : ts ≡ at-token.3.past ++ at-token.3.from
+    split : ts ≡ at-token.3.past ++ at-token.3.behind
     split = sym tokens ∙ at-token.3.split
 
-    parse : parsed (kinds ts) ≡ Err (at-token.0, kinds at-token.3.from)
+    parse : parsed (kinds ts) ≡ Err (at-token.0, kinds at-token.3.behind)
     parse = sym parsed_is ∙ at-token.2 ∙ ap (λ (r : List Tok). Err (at-token.0, r)) (sym at-token.3.rest)
 
-    fault : described f ≡ refused at-token.0 n (place_or (suc (length l)) at-token.3.from)
+    fault : described f ≡ refused at-token.0 n (place_or (suc (length l)) at-token.3.behind)
     fault =
         at-token.3.fault
-        ∙ ap₂ (λ (m : ℕ) (b : Bytes). refused at-token.0 m (place_or (suc (length b)) at-token.3.from)) num same
+        ∙ ap₂ (λ (m : ℕ) (b : Bytes). refused at-token.0 m (place_or (suc (length b)) at-token.3.behind)) num same
 
     pub refused_answer : Answered n (located (suc (length l)) ts (parsed (kinds ts))) (Err f)
     refused_answer =
-        let from = at-token.3.from in
+        let from = at-token.3.behind in
         let few : length ts - length (kinds from) ≡ length (at-token.3.past ++ from) - length from = omega (arith, ap length split, length_kinds from) in
         let e : drop (length ts - length (kinds from)) ts ≡ from =
         ap₂ (λ (m : ℕ) (ps : List Placed). drop m ps) few split ∙ tail_is at-token.3.past from in
@@ -144,7 +137,7 @@ module _ (l : Bytes) (ts : List Placed) (n : ℕ) (p q : Parser) (tokens : ahead
     pub refused_place : Conforms l ts (Err f)
     refused_place =
         let past = at-token.3.past in
-        let from = at-token.3.from in
+        let from = at-token.3.behind in
         let m = at-token.0 in
         let cut : kinds ts ≡ kinds past ++ kinds from = ap kinds split ∙ kinds_append past from in
         let a = at_first (kinds ts) m (kinds from) parse in

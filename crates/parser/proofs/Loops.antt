@@ -4,7 +4,7 @@ use Rattle.std.proofs.Common.{append-nil, ◌≡◌, ℕ, zero, suc, ◌<◌, �
 use Rattle.text.specs.Tokens.{Tok, Placed}
 use Rattle.expressions.specs.Grammar.{Expr, Out, after, more, chain}
 use Rattle.expressions.specs.Conditions.{kinds, Item, postfix}
-use Rattle.parser.specs.Parsing.{ahead, written, Ready, Run, Advanced, Outcome}
+use Rattle.parser.specs.Parsing.{ahead, written, Run, Advanced, Outcome}
 use Rattle.expressions.specs.declared.fault.ExpressionFault.{ExpressionFault}
 use Rattle.parser.specs.declared.descent.Parser.{Parser}
 use Rattle.parser.proofs.Moves.{next_is}
@@ -19,7 +19,6 @@ pub record Looped (op : Tok → Bool) (join : Expr → Expr → Expr) (t : List 
   pub steps : List Item
   pub run : Run p q past steps
   pub few : length steps ≤ length past
-  pub ready : Ready q
   pub joined : (e : Expr) → (k : ℕ) × (f : Expr) × (length (kinds (ahead q)) ≤ k) × (postfix f ≡ postfix e ++ steps)
       × (more op join t (length (kinds (ahead p))) e (kinds (ahead p)) ≡ more op join t k f (kinds (ahead q)))
 
@@ -30,7 +29,6 @@ module _ (op : Tok → Bool) (join : Expr → Expr → Expr) (t : List Tok → O
     steps = [];
     run = record { line = refl; number = refl; ahead = refl; written = sym (append-nil (written q)) };
     few = omega arith;
-    ready = (was_read postfix p q z u o).3.ready;
     joined = λ e. (length (kinds (ahead q)), e, omega arith, sym (append-nil (postfix e)), refl);
   }
 
@@ -58,7 +56,7 @@ module _ (op : Tok → Bool) (join : Expr → Expr → Expr) (t : List Tok → O
 
   -- a turn of the loop, which ends by writing the step o
   module _ (p q q₁ q₂ q₃ : Parser) (o : Item) (u : Unit {0}) (l : Looped op join t p q) (n : next_is op (kinds (ahead q)) ≡ true) (a : Advanced q q₁)
-      (d : Outcome postfix q₁ q₂ (Ok u) (t (kinds (ahead q₁)))) (i : Run q₂ q₃ [] (o ∷ [])) (g : Ready q₃) where
+      (d : Outcome postfix q₁ q₂ (Ok u) (t (kinds (ahead q₁)))) (i : Run q₂ q₃ [] (o ∷ [])) where
     turned : Run q q₃ (a.0 ∷ ((was_read postfix q₁ q₂ (t (kinds (ahead q₁))) u d).3.past ++ [])) (postfix (was_read postfix q₁ q₂ (t (kinds (ahead q₁))) u d).0 ++ o ∷ [])
     turned = then a.1 (then (was_read postfix q₁ q₂ (t (kinds (ahead q₁))) u d).3.run i)
 
@@ -76,7 +74,6 @@ module _ (op : Tok → Bool) (join : Expr → Expr → Expr) (t : List Tok → O
           steps = l.steps ++ js;
           run = then l.run turned;
           few = omega (arith, l.few, w.3.few, length-append l.past (a.0 ∷ (w.3.past ++ [])), length-append w.3.past [], length-append l.steps js, length-append (postfix w.0) (o ∷ []));
-          ready = g;
           joined = λ e.
               let j = l.joined e in
               let rest : w.1 ≡ kinds (ahead q₃) = sym w.3.rest ∙ ap kinds i.ahead in
@@ -106,7 +103,6 @@ module _ (op : Tok → Bool) (join : Expr → Expr → Expr) (t : List Tok → O
           past = w.3.past ++ l.past;
           run = subst (Run p s (w.3.past ++ l.past)) (sym j.3) (then w.3.run l.run);
           few = omega (arith, ap length j.3, length-append (postfix w.0) l.steps, length-append w.3.past l.past, w.3.few, l.few);
-          ready = l.ready;
           rest = refl;
         })
 

@@ -1,6 +1,7 @@
 -- The parts of an expression as the parser reads them, against the grammar.
 use Rattle.std.proofs.Common.{append-nil, ◌≡◌, ℕ, suc, ◌+◌, ◌<◌, ◌≤◌, Bool, true, false, cond, List, [], ◌∷◌, ◌++◌, length, IsErrAnd, Some, None, Ok, Err, Option, Result, sym, refl, ap, ◌∙◌, subst, ap₂, append_assoc, arith, length-append}
 use Rattle.std.proofs.lemmas.Result.{err_from_is_err_and}
+use Rattle.std.proofs.lemmas.List.{length-map}
 use Rattle.text.specs.Tokens.{Bytes, Tok, nought, unit, defined, not, and, or, opened, closed, name, other, Placed}
 use Rattle.text.specs.Pulling.{placed, place, left, place_or}
 use Rattle.text.specs.declared.scanner.Part.{Part}
@@ -8,7 +9,8 @@ use Rattle.text.specs.declared.scanner.Token.TheVariants.{Name}
 use Rattle.expressions.specs.Grammar.{Expr, named, is_close, Out, after, closing, inside, name_due}
 use Rattle.expressions.specs.Conditions.{kinds, Item, item, postfix}
 use Rattle.expressions.specs.Faults.{refused, described}
-use Rattle.parser.specs.Parsing.{name_first, before, ahead, written, Ready, Run, Advanced, Read, Refused, Outcome}
+use Rattle.parser.specs.Ahead.{before}
+use Rattle.parser.specs.Parsing.{name_first, ahead, written, Run, Advanced, Read, Refused, Outcome}
 use Rattle.expressions.specs.declared.condition.Step.TheVariants.{Defined}
 use Rattle.expressions.specs.declared.fault.ExpressionFault.{ExpressionFault}
 use Rattle.parser.specs.declared.descent.Parser.{Parser}
@@ -29,16 +31,16 @@ pub exits : {A : Type 0} (y : Result A ExpressionFault) (f : ExpressionFault) �
 exits y f h = let p = err_from_is_err_and y h in p.1 ∙ ap Err p.2
 
 -- refused at the first token ahead, or later
-pub here : (p : Parser) (f : ExpressionFault) (n : ℕ) → Ready p → described f ≡ refused n p.number (place p.token) → Refused p f n (kinds (ahead p))
-here p f n g e = record { past = []; from = ahead p; split = refl; rest = refl; fault = e ∙ ap (λ (b : ℕ). refused n p.number b) g.at }
+pub here : (p : Parser) (f : ExpressionFault) (n : ℕ) → described f ≡ refused n p.number (place p.token) → Refused p f n (kinds (ahead p))
+here p f n e = record { past = []; behind = ahead p; split = refl; rest = refl; fault = e ∙ ap (λ (b : ℕ). refused n p.number b) p.at }
 
 pub later : {p q : Parser} {s : List Placed} {is : List Item} {f : ExpressionFault} {n : ℕ} {r : List Tok} → Run p q s is → Refused q f n r → Refused p f n r
 later {p} {q} {s} {is} {f} {n} {r} a b = record {
   past = s ++ b.past;
-  from = b.from;
-  split = a.ahead ∙ ap (λ (z : List Placed). s ++ z) b.split ∙ sym (append_assoc s b.past b.from);
+  behind = b.behind;
+  split = a.ahead ∙ ap (λ (z : List Placed). s ++ z) b.split ∙ sym (append_assoc s b.past b.behind);
   rest = b.rest;
-  fault = b.fault ∙ ap₂ (λ (m : ℕ) (l : Bytes). refused n m (place_or (suc (length l)) b.from)) a.number a.line;
+  fault = b.fault ∙ ap₂ (λ (m : ℕ) (l : Bytes). refused n m (place_or (suc (length l)) b.behind)) a.number a.line;
 }
 
 -- what an answer says
@@ -80,15 +82,28 @@ token_is p t at e = ap (λ (o : Option Placed). kinds (before o (left p.tokens))
 pub end_is : (p : Parser) → placed p.token ≡ None → kinds (ahead p) ≡ []
 end_is p e = ap (λ (o : Option Placed). kinds (before o (left p.tokens))) e
 
--- behind a token there is room for a step, and behind what it leads there is too
-pub room_behind : (p q : Parser) → Ready p → Advanced p q → length (written q) + length (ahead q) < 255
-room_behind p q g a = omega (arith, g.room, ap length a.1.ahead, ap length a.1.written, length-append (written p) [])
+length_items : (p : Parser) → length (written p) ≡ length p.steps.items
+length_items p = length-map p.steps.items item
 
-pub room_later : (p q r : Parser) (z : Out) (u : Unit {0}) → Ready p → Advanced p q → Outcome postfix q r (Ok u) z → length (written r) + length (ahead r) < 255
-room_later p q r z u g a o =
+-- behind a token there is room for a step, and behind what it leads there is too
+pub room_behind : (p q : Parser) → Advanced p q → length q.steps.items + length (ahead q) < 255
+room_behind p q a = omega (arith, p.room, length_items p, length_items q, ap length a.1.ahead, ap length a.1.written, length-append (written p) [])
+
+pub room_later : (p q r : Parser) (z : Out) (u : Unit {0}) → Advanced p q → Outcome postfix q r (Ok u) z → length r.steps.items + length (ahead r) < 255
+room_later p q r z u a o =
     let w = was_read postfix q r z u o in
     let d = w.3 in
-    omega (arith, room_behind p q g a, d.few, ap length d.run.written, length-append (written q) (postfix w.0), ap length d.run.ahead, length-append d.past (ahead r))
+    omega (
+      arith,
+      room_behind p q a,
+      d.few,
+      length_items q,
+      length_items r,
+      ap length d.run.written,
+      length-append (written q) (postfix w.0),
+      ap length d.run.ahead,
+      length-append d.past (ahead r),
+    )
 
 -- what was read before goes with the parenthesis
 with_close : (p r s : Parser) (e : Expr) (ks : List Tok) (y : Answer) (past : List Placed) → Run p r past (postfix e) → length (postfix e) ≤ length past
@@ -103,7 +118,6 @@ with_close p r s e (t ∷ ks) y past a h o = go (is_close t) y o
           past = past ++ o.past;
           run = subst (Run p s (past ++ o.past)) (append-nil (postfix e)) (then a o.run);
           few = omega (arith, h, length-append past o.past);
-          ready = o.ready;
           rest = o.rest;
         }
     go true (Err f) o = absurd o
@@ -127,15 +141,15 @@ through w p q r s z k y f a h o =
     refuses postfix p s (after z k) y f d.0 d.1 h (ap (λ (z : Out). after z k) d.2) (later a.1 d.3)
 
 -- A name.
-pub name_yes : (p q r : Parser) (part : Part) → Ready p → p.token ≡ Name part → Advanced p q
-    → Run q r [] (item (Defined part.text) ∷ []) → Ready r
+pub name_yes : (p q r : Parser) (part : Part) → p.token ≡ Name part → Advanced p q
+    → Run q r [] (item (Defined part.text) ∷ [])
     → Outcome postfix p r (Ok tt) (name_first (kinds (ahead p)))
-name_yes p q r part g t a b c =
+name_yes p q r part t a b =
     let x = part.text.now in
     let k : kinds (ahead p) ≡ name x ∷ kinds (ahead q) = head_is p q (name x) part.at (ap placed t) a in
     reads postfix p r (name_first (kinds (ahead p))) (named x) (kinds (ahead r))
     (ap name_first k ∙ ap (λ (ps : List Placed). Ok (named x, kinds ps)) b.ahead)
-    (record { past = a.0 ∷ []; run = then a.1 b; few = omega arith; ready = c; rest = refl })
+    (record { past = a.0 ∷ []; run = then a.1 b; few = omega arith; rest = refl })
 
 -- What stands behind `defined`.
 inside_is : (ks : List Tok) → inside ks ≡ after (name_first ks) closing

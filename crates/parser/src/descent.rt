@@ -1,11 +1,11 @@
 // Reads the tokens of a line by recursive descent, and writes the steps of the condition that they make.
-ghost use Rattle.std.specs.Prelude.{◌≡◌, ◌+◌, ◌<◌, ◌≤◌, List, [], ◌∷◌, length, IfOk, MatchResult, Err};
-ghost use Rattle.text.specs.Tokens.{tokens_at};
-ghost use Rattle.text.specs.Pulling.{place};
-ghost use Rattle.expressions.specs.declared.fault.ExpressionFault.TheVariants.{LineTooLong, Token as TokenAt};
+ghost use Rattle.std.specs.Prelude.{◌≡◌, suc, ◌+◌, ◌-◌, ◌<◌, ◌≤◌, [], ◌∷◌, length, take, drop, MatchResult};
+ghost use Rattle.text.specs.Pulling.{place, bytes, place_or};
+ghost use Rattle.expressions.specs.declared.fault.ExpressionFault.TheVariants.{Token as TokenAt};
 ghost use Rattle.expressions.specs.Grammar.{Expr, closing, name_due, term as term_of, ands_of, expr as expr_of, parsed};
-ghost use Rattle.expressions.specs.Conditions.{Item, item, kinds, postfix};
-ghost use Rattle.parser.specs.Parsing.{name_first, ahead, line_of, written, Begun, Ready, Run, Advanced, Outcome, Completed};
+ghost use Rattle.expressions.specs.Conditions.{item, kinds, postfix};
+ghost use Rattle.expressions.specs.Operands.{Short, RefusesLong};
+ghost use Rattle.parser.specs.Ahead.{from};
 
 use arrayvec::ArrayVec;
 use expressions::condition::{MAX_LINE, Step};
@@ -25,13 +25,19 @@ pub struct Parser<'a> {
     // the line's number
     number: usize,
     pub steps: ArrayVec<Step<'a>, MAX_LINE>,
+    // the current token is a part of the line at its place, and there is room for a step of each token ahead
+    ghost at: { place token ≡ place_or (suc (length tokens.line.now)) (from token tokens) },
+    ghost part: { bytes token ≡ take (length (bytes token)) (drop (place token - 1) tokens.line.now) },
+    ghost room: { length steps.items + length (from token tokens) ≤ 255 },
 }
 
 impl<'a> Parser<'a> {
+    ghost use Rattle.parser.specs.Parsing.{name_first, ahead, Begun, Run, Advanced, Outcome, Completed};
+
     // At the operand's first token, unless its line is too long.
     pub fn new(operand: Operand<'a>) -> Result<Parser<'a>, ExpressionFault>
-        ensures long { 255 < length operand.entry.line.now → result ≡ Err (LineTooLong operand.entry.number) }
-        ensures begun { MatchResult result (λ p. (length operand.entry.line.now ≤ 255) × Begun operand.entry p) (λ f. 255 < length operand.entry.line.now) }
+        ensures long { RefusesLong operand.entry result }
+        ensures begun { MatchResult result (λ p. Short operand.entry × Begun operand.entry p) (λ f. 255 < length operand.entry.line.now) }
     {
         let mut tokens = operand.tokens()?;
         let token = tokens.next();
@@ -45,7 +51,6 @@ impl<'a> Parser<'a> {
 
     // All that is ahead, which has to be one expression.
     pub fn complete(&mut self) -> Result<(), ExpressionFault>
-        requires { Ready self.old }
         ensures { Completed self.old self.new result (parsed (kinds (ahead self.old))) }
     {
         self.expression(MAX_LEVELS)?;
@@ -56,18 +61,15 @@ impl<'a> Parser<'a> {
     }
 
     fn advance(&mut self)
-        requires ready { Ready self.old }
-        requires more { 0 < length (ahead self.old) }
+        requires { 0 < length (ahead self.old) }
         ensures { Advanced self.old self.new }
     {
         self.token = self.tokens.next();
     }
 
     fn emit(&mut self, step: Step<'a>)
-        requires ready { Ready self.old }
-        requires room { length (written self.old) + length (ahead self.old) < 255 }
-        ensures run { Run self.old self.new [] (item step.entry ∷ []) }
-        ensures ready { Ready self.new }
+        requires { length self.old.steps.items + length (ahead self.old) < 255 }
+        ensures { Run self.old self.new [] (item step.entry ∷ []) }
     {
         self.steps.push(step);
     }
@@ -80,7 +82,6 @@ impl<'a> Parser<'a> {
 
     // A closing parenthesis, which gives no step.
     fn close(&mut self) -> Result<(), ExpressionFault>
-        requires { Ready self.old }
         ensures { (e : Expr) → Outcome (λ _. []) self.old self.new result (closing e (kinds (ahead self.old))) }
     {
         match self.token {
@@ -93,7 +94,6 @@ impl<'a> Parser<'a> {
     }
 
     fn name(&mut self) -> Result<(), ExpressionFault>
-        requires { Ready self.old }
         ensures { Outcome postfix self.old self.new result (name_first (kinds (ahead self.old))) }
     {
         match self.token {
@@ -108,7 +108,6 @@ impl<'a> Parser<'a> {
 
     // What stands behind `defined`.
     fn defined(&mut self) -> Result<(), ExpressionFault>
-        requires { Ready self.old }
         ensures { Outcome postfix self.old self.new result (name_due (kinds (ahead self.old))) }
     {
         match self.token {
@@ -124,7 +123,6 @@ impl<'a> Parser<'a> {
     // A term, inside which `left` more of `!` and `(` may stand around one place.
     #[cycle(ands_expression_term)]
     fn term(&mut self, left: usize) -> Result<(), ExpressionFault>
-        requires { Ready self.old }
         ensures { Outcome postfix self.old self.new result (term_of left (kinds (ahead self.old))) }
     {
         match self.token {
@@ -169,7 +167,6 @@ impl<'a> Parser<'a> {
     // Terms joined by `&&`.
     #[cycle(ands_expression_term)]
     fn ands(&mut self, left: usize) -> Result<(), ExpressionFault>
-        requires { Ready self.old }
         ensures { Outcome postfix self.old self.new result (ands_of left (kinds (ahead self.old))) }
     {
         self.term(left)?;
@@ -184,7 +181,6 @@ impl<'a> Parser<'a> {
     // These joined by `||`. Stays beside `ands`: one function for both would take the part's reader as a closure, and these three call one another.
     #[cycle(ands_expression_term)]
     fn expression(&mut self, left: usize) -> Result<(), ExpressionFault>
-        requires { Ready self.old }
         ensures { Outcome postfix self.old self.new result (expr_of left (kinds (ahead self.old))) }
     {
         self.ands(left)?;

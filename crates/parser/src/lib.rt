@@ -3,10 +3,8 @@
 // cannot go on.
 #![tactic(auto)]
 
-ghost use Rattle.std.specs.Prelude.{◌≡◌, ◌<◌, ◌≤◌, length, Err};
-ghost use Rattle.text.specs.Tokens.{tokens_at};
-ghost use Rattle.expressions.specs.declared.fault.ExpressionFault.TheVariants.{LineTooLong};
 ghost use Rattle.expressions.specs.Conditions.{condition_at};
+ghost use Rattle.expressions.specs.Operands.{tokens_in, Short, RefusesLong};
 ghost use Rattle.expressions.specs.Answers.{Answered, Conforms};
 ghost use Rattle.expressions.specs.Derived.{Exact, OneOnly, AtFirst, Numbered};
 ghost use Rattle.expressions.specs.Examples.{Examples};
@@ -20,9 +18,9 @@ use expressions::operand::Operand;
 
 // The condition that stands there, where comments may be known. The line comes without its line feed; faults name it by its number.
 pub fn condition<'a>(operand: Operand<'a>) -> Result<Condition<'a>, ExpressionFault>
-    ensures long { 255 < length operand.entry.line.now → result ≡ Err (LineTooLong operand.entry.number) }
-    ensures reads { length operand.entry.line.now ≤ 255 → Answered operand.entry.number (condition_at operand.entry.comments operand.entry.line.now operand.entry.from) result }
-    ensures grammar { length operand.entry.line.now ≤ 255 → Conforms operand.entry.line.now (tokens_at operand.entry.comments operand.entry.line.now operand.entry.from) result }
+    ensures long { RefusesLong operand.entry result }
+    ensures reads { let o = operand.entry in Short o → Answered o.number (condition_at o.comments o.line.now o.from) result }
+    ensures grammar { let o = operand.entry in Short o → Conforms o.line.now (tokens_in o) result }
     ensures exact { Exact }
     ensures one { OneOnly }
     ensures place { AtFirst }

@@ -14,12 +14,12 @@ use Rattle.parser.proofs.descent.Parser.+ands_expression_term.Goals as goal
 pub term-returns-in-Zero : goal.term-returns-in-Zero
 term-returns-in-Zero t c =
     constant c.args.left c.args.self.now c.advance.new.self c.emit.new.self nought c.in-Zero.field-0.at never false-item
-    (term_zero c.args.left) refl (ap placed c.in-Zero.is) c.advance.ensures c.emit.ensures.run c.emit.ensures.ready
+    (term_zero c.args.left) refl (ap placed c.in-Zero.is) c.advance.ensures c.emit.ensures
 
 pub term-returns-in-One : goal.term-returns-in-One
 term-returns-in-One t c =
     constant c.args.left c.args.self.now c.advance-in-One.new.self c.emit-in-One.new.self unit c.in-One.field-0.at always true-item
-    (term_one c.args.left) refl (ap placed c.in-One.is) c.advance-in-One.ensures c.emit-in-One.ensures.run c.emit-in-One.ensures.ready
+    (term_one c.args.left) refl (ap placed c.in-One.is) c.advance-in-One.ensures c.emit-in-One.ensures
 
 pub term-returns-in-Defined : goal.term-returns-in-Defined
 term-returns-in-Defined t c =
@@ -34,7 +34,7 @@ term-returns-in_err-term-in-Not t c =
 pub term-returns-in_ok-term-in-Not : goal.term-returns-in_ok-term-in-Not
 term-returns-in_ok-term-in-Not t c =
     negated c.args.left c.args.self.now c.advance-in-Not.new.self c.in-Not.field-0.at (omega arith) (ap placed c.in-Not.is) c.advance-in-Not.ensures
-    c.term.new.self c.emit-in-Not.new.self tt c.in_ok-term-in-Not.ensures c.emit-in-Not.ensures.run c.emit-in-Not.ensures.ready
+    c.term.new.self c.emit-in-Not.new.self tt c.in_ok-term-in-Not.ensures c.emit-in-Not.ensures
 
 pub term-returns-in_err-expression-in-Open : goal.term-returns-in_err-expression-in-Open
 term-returns-in_err-expression-in-Open t c =
@@ -48,7 +48,7 @@ term-returns-in_ok-expression-in-Open t c =
 
 pub term-returns-in-And : goal.term-returns-in-And
 term-returns-in-And t c =
-    unfit c.args.left c.args.self.now c.args.self.now c.fault-in-And.result c.requires c.in-And.is (ap described c.fault-in-And.ensures)
+    unfit c.args.left c.args.self.now c.args.self.now c.fault-in-And.result c.in-And.is (ap described c.fault-in-And.ensures)
 
 pub ands-loop-self-init : goal.ands-loop-self-init
 ands-loop-self-init t c =
@@ -60,19 +60,19 @@ ands-returns-in_err-term-2 t c =
     c.loop-self.self c.advance.new.self c.term-in-And.new.self c.from_residual-in_err-term-2.result c.in_err-term-2.field-0.0
     c.loop-self.invariant (next_yes is_and c.loop-self.self and c.in-And.field-0.at (ap placed c.in-And.is) refl) c.advance.ensures (exits c.from_residual-in_err-term-2.result c.in_err-term-2.field-0.0 c.from_residual-in_err-term-2.ensures.1) c.in_err-term-2.ensures
 
-pub ands-emit-requires-clause-room : goal.ands-emit-requires-clause-room
-ands-emit-requires-clause-room t c =
-    room_later c.loop-self.self c.advance.new.self c.term-in-And.new.self (term c.args.left (kinds (ahead c.advance.new.self))) tt c.loop-self.invariant.ready c.advance.ensures c.in_ok-term-2.ensures
+pub ands-emit-requires : goal.ands-emit-requires
+ands-emit-requires t c =
+    room_later c.loop-self.self c.advance.new.self c.term-in-And.new.self (term c.args.left (kinds (ahead c.advance.new.self))) tt c.advance.ensures c.in_ok-term-2.ensures
 
 pub ands-loop-self-smaller : goal.ands-loop-self-smaller
 ands-loop-self-smaller t c =
     shorter is_and conj (λ s. term c.args.left s) c.term.new.self c.loop-self.self c.advance.new.self c.term-in-And.new.self c.emit.new.self and_item tt
-    c.loop-self.invariant (next_yes is_and c.loop-self.self and c.in-And.field-0.at (ap placed c.in-And.is) refl) c.advance.ensures c.in_ok-term-2.ensures c.emit.ensures.run c.emit.ensures.ready
+    c.loop-self.invariant (next_yes is_and c.loop-self.self and c.in-And.field-0.at (ap placed c.in-And.is) refl) c.advance.ensures c.in_ok-term-2.ensures c.emit.ensures
 
 pub ands-loop-self-preserved : goal.ands-loop-self-preserved
 ands-loop-self-preserved t c =
     again is_and conj (λ s. term c.args.left s) c.term.new.self c.loop-self.self c.advance.new.self c.term-in-And.new.self c.emit.new.self and_item tt
-    c.loop-self.invariant (next_yes is_and c.loop-self.self and c.in-And.field-0.at (ap placed c.in-And.is) refl) c.advance.ensures c.in_ok-term-2.ensures c.emit.ensures.run c.emit.ensures.ready
+    c.loop-self.invariant (next_yes is_and c.loop-self.self and c.in-And.field-0.at (ap placed c.in-And.is) refl) c.advance.ensures c.in_ok-term-2.ensures c.emit.ensures
     (λ e f. refl)
 
 pub ands-returns : goal.ands-returns
@@ -90,19 +90,19 @@ expression-returns-in_err-ands-2 t c =
     c.loop-self.self c.advance.new.self c.ands-in-Or.new.self c.from_residual-in_err-ands-2.result c.in_err-ands-2.field-0.0
     c.loop-self.invariant (next_yes is_or c.loop-self.self or c.in-Or.field-0.at (ap placed c.in-Or.is) refl) c.advance.ensures (exits c.from_residual-in_err-ands-2.result c.in_err-ands-2.field-0.0 c.from_residual-in_err-ands-2.ensures.1) c.in_err-ands-2.ensures
 
-pub expression-emit-requires-clause-room : goal.expression-emit-requires-clause-room
-expression-emit-requires-clause-room t c =
-    room_later c.loop-self.self c.advance.new.self c.ands-in-Or.new.self (ands_of c.args.left (kinds (ahead c.advance.new.self))) tt c.loop-self.invariant.ready c.advance.ensures c.in_ok-ands-2.ensures
+pub expression-emit-requires : goal.expression-emit-requires
+expression-emit-requires t c =
+    room_later c.loop-self.self c.advance.new.self c.ands-in-Or.new.self (ands_of c.args.left (kinds (ahead c.advance.new.self))) tt c.advance.ensures c.in_ok-ands-2.ensures
 
 pub expression-loop-self-smaller : goal.expression-loop-self-smaller
 expression-loop-self-smaller t c =
     shorter is_or disj (λ s. ands_of c.args.left s) c.ands.new.self c.loop-self.self c.advance.new.self c.ands-in-Or.new.self c.emit.new.self or-item tt
-    c.loop-self.invariant (next_yes is_or c.loop-self.self or c.in-Or.field-0.at (ap placed c.in-Or.is) refl) c.advance.ensures c.in_ok-ands-2.ensures c.emit.ensures.run c.emit.ensures.ready
+    c.loop-self.invariant (next_yes is_or c.loop-self.self or c.in-Or.field-0.at (ap placed c.in-Or.is) refl) c.advance.ensures c.in_ok-ands-2.ensures c.emit.ensures
 
 pub expression-loop-self-preserved : goal.expression-loop-self-preserved
 expression-loop-self-preserved t c =
     again is_or disj (λ s. ands_of c.args.left s) c.ands.new.self c.loop-self.self c.advance.new.self c.ands-in-Or.new.self c.emit.new.self or-item tt
-    c.loop-self.invariant (next_yes is_or c.loop-self.self or c.in-Or.field-0.at (ap placed c.in-Or.is) refl) c.advance.ensures c.in_ok-ands-2.ensures c.emit.ensures.run c.emit.ensures.ready
+    c.loop-self.invariant (next_yes is_or c.loop-self.self or c.in-Or.field-0.at (ap placed c.in-Or.is) refl) c.advance.ensures c.in_ok-ands-2.ensures c.emit.ensures
     (λ e f. refl)
 
 pub expression-returns : goal.expression-returns
