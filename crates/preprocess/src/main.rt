@@ -3,7 +3,7 @@
 #![tactic(auto)]
 
 use anyhow::anyhow;
-use expressions::line::only_name;
+use expressions::operand::Operand;
 use preprocessing::fault::PreprocessingFault;
 use preprocessing::preprocess;
 use std::env;
@@ -24,10 +24,14 @@ fn switch_of(option: &[u8]) -> Option<Switch<'_>> {
         [b'-', b'U', name @ ..] => Switch { name, on: false },
         _ => return None,
     };
-    match only_name(switch.name, 0, false, 0) {
-        Ok(part) if part.text.len() == switch.name.len() => Some(switch),
-        _ => None,
-    }
+    let operand = Operand {
+        line: switch.name,
+        from: 0,
+        comments: false,
+        number: 0,
+    };
+    let name = operand.only_name().ok()?;
+    (name.text.len() == switch.name.len()).then_some(switch)
 }
 
 fn refuse(rt: &HostRuntime, fault: PreprocessingFault) -> anyhow::Result<ExitCode> {
@@ -40,25 +44,23 @@ fn refuse(rt: &HostRuntime, fault: PreprocessingFault) -> anyhow::Result<ExitCod
     }
 }
 
-// The bit of switch `i`. Beyond 31 there is none, and so many switches are refused.
-fn bit(i: usize) -> u32 {
-    if i < 32 { 1u32 << i } else { 0 }
-}
-
 // Writes what the options' configuration keeps of the source.
 fn run(rt: &HostRuntime, options: &[String], source: &[u8]) -> anyhow::Result<ExitCode> {
     let heap = rt.alloc();
     let mut names = Vec::new(heap);
     let mut configuration = 0u32;
-    for (i, option) in options.iter().enumerate() {
+    // the next switch's; none is left for the 33rd, and so many are refused
+    let mut bit = 1u32;
+    for option in options {
         let Some(switch) = switch_of(option.as_bytes()) else {
             eprintln!(rt; "usage: preprocess [-DNAME | -UNAME]... < SOURCE")?;
             return Ok(ExitCode::FAILURE);
         };
         names.push(switch.name)?;
         if switch.on {
-            configuration |= bit(i);
+            configuration |= bit;
         }
+        bit <<= 1;
     }
     match preprocess(heap, names.as_slice(), configuration, source) {
         Ok(output) => {

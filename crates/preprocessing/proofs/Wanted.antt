@@ -1,10 +1,11 @@
 -- What is wanted of a source, by what was tested.
-use Rattle.std.proofs.Common.{◌≡◌, ℕ, ◌*◌, ◌%◌, ◌^◌, ◌<◌, ◌≤◌, Bool, true, false, cond, not, ltb, List, [], ◌++◌, length, Some, None, Ok, Err, Option, Result, sym, refl, ap, ◌∙◌, subst, ap₂, vec_items, arith, le-ltb, lt-ltb, le-leb}
+use Rattle.std.proofs.Common.{◌≡◌, ℕ, ◌*◌, ◌%◌, ◌^◌, ◌<◌, ◌≤◌, Bool, true, false, cond, not, ltb, List, [], ◌++◌, length, Some, None, Ok, Err, Option, Result, sym, refl, ap, ◌∙◌, subst, ap₂, vec_items, Bor, arith, le-ltb, lt-ltb, le-leb}
 use Rattle.std.proofs.lemmas.Nat.{one_shl}
 use Rattle.faults.specs.declared.Refusal.{Refusal}
 use Rattle.faults.specs.declared.Layer.TheVariants.{Store, Session}
 use Rattle.text.specs.Tokens.{Bytes}
-use Rattle.names.specs.Names.{distinct}
+use Rattle.names.specs.Names.{texts, distinct}
+use Rattle.preprocessing.proofs.Turns.{length_texts}
 use Rattle.sources.specs.Lines.{lines, is_too_large, joined}
 use Rattle.sources.specs.Classified.{Line, refuse, changed}
 use Rattle.sources.specs.Faults.{of_lines, line_fault}
@@ -104,6 +105,19 @@ module _ (ns : List Bytes) (k : ℕ) (t : Bytes) where
         left = w ∙ nothing_before whole ∙ ap₂ (λ (x : Shape) (bs : Bytes). changed (λ more. bs ++ more) (rendered (placed false 1 (lines t)) x (began (defined_in ns k)))) (sym e) (sym o);
       }
 
--- a bit that is shifted by the number of switches
-pub shifted : (n : ℕ) → n ≤ 24 → (1 * 2 ^ n) % 4294967296 ≡ 2 ^ n
+-- the number of configurations, as the code computes it
+shifted : (n : ℕ) → n ≤ 24 → (1 * 2 ^ n) % 4294967296 ≡ 2 ^ n
 shifted n h = omega (arith, one_shl n 32 (omega (arith, h)))
+
+module _ (rs : List (Bor Bytes)) (k : ℕ) (h : length rs ≤ 24) where
+  pub few_names : length (texts rs) ≤ 24
+  few_names = omega (arith, h, length_texts rs)
+
+  all_of : (1 * 2 ^ length rs) % 4294967296 ≡ 2 ^ length (texts rs)
+  all_of = shifted (length rs) h ∙ ap (λ (n : ℕ). 2 ^ n) (sym (length_texts rs))
+
+  pub low_number : k < (1 * 2 ^ length rs) % 4294967296 → k < 2 ^ length (texts rs)
+  low_number l = omega (arith, l, all_of)
+
+  pub high_number : (1 * 2 ^ length rs) % 4294967296 ≤ k → 2 ^ length (texts rs) ≤ k
+  high_number l = omega (arith, l, all_of)
