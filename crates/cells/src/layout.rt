@@ -1,5 +1,5 @@
 // Where things lie in the words: the number of switches, the number of cells, the chain heads, the working words, then the cells.
-ghost use Rattle.std.specs.Prelude.{◌≡◌, ◌≤◌, length};
+ghost use Rattle.std.specs.Prelude.{◌≡◌, ◌+◌, ◌*◌, ◌≤◌, length};
 ghost use Rattle.cells.specs.Words.{capacity};
 
 // The most cells that are used, however many words there are: two numbers then go into one word.
@@ -43,6 +43,13 @@ pub const ALL: u32 = 1;
 
 // The two cells below the floor are never released.
 pub const FLOOR: u32 = 2;
+
+// The first word of a cell.
+pub(crate) fn place(cell: u32) -> usize
+    ensures { result ≡ 1090 + 4 * cell }
+{
+    CELLS + CELL_WORDS * cell as usize
+}
 
 // How many cells there is room for.
 pub(crate) fn room(words: &[u32]) -> u32

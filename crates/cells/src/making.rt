@@ -3,7 +3,7 @@ ghost use Rattle.std.specs.Prelude.{◌≤◌, length};
 ghost use Rattle.stores.specs.Making.{Prepared};
 ghost use Rattle.cells.specs.Words.{Wiped, New, due};
 
-use super::layout::{ALL, CELL_WORDS, CELLS, COUNT_WORD, EMPTY, FLOOR, N_WORD, room};
+use super::layout::{ALL, COUNT_WORD, EMPTY, FLOOR, N_WORD, place, room};
 use super::node::Node;
 use stores::MAX_SWITCHES;
 use stores::fault::StoreFault;
@@ -16,7 +16,7 @@ pub(crate) fn wipe(words: &mut [u32])
     requires { 1090 ≤ length words.old }
     ensures { Wiped words.old words.new }
 {
-    let end = CELLS + CELL_WORDS * room(words) as usize;
+    let end = place(room(words));
     words[..end].fill(0);
 }
 

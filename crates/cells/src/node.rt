@@ -3,7 +3,7 @@ ghost use Rattle.std.specs.Prelude.{◌≡◌, ◌+◌, ◌*◌, ◌≤◌, leng
 ghost use Rattle.cells.specs.Words.{chain_of, written};
 ghost use Rattle.cells.specs.Nodes.{cell_of};
 
-use super::layout::{CELL_WORDS, CELLS, CHAINS, HIGH, LOW, NO_SWITCH};
+use super::layout::{CHAINS, HIGH, LOW, NO_SWITCH, place};
 
 // A cell: a switch, and the numbers of the cells for it off and on.
 #[derive(Clone, Copy, PartialEq, Eq)]
@@ -30,7 +30,7 @@ impl Node {
         requires { 1090 + 4 * cell + 4 ≤ length words.old }
         ensures { words.new ≡ written words.old cell (cell_of self) }
     {
-        let place = CELLS + CELL_WORDS * cell as usize;
+        let place = place(cell);
         words[place] = self.switch;
         words[place + LOW] = self.low;
         words[place + HIGH] = self.high;

@@ -1,13 +1,12 @@
 // The pool of cells: each lies on the chain that its switch and sides give, newest first, so that none is added twice. 0 ends a chain.
+// What writes takes the bare words: tried as methods of a struct round them, each had to promise instead that it leaves the same words in it.
 ghost use Rattle.std.specs.Prelude.{◌≡◌, ◌+◌, ◌*◌, ◌<◌, ◌≤◌, length, OnErr};
 ghost use Rattle.stores.specs.declared.fault.StoreFault.TheVariants.{NoSwitch};
 ghost use Rattle.cells.specs.Cells.{node, Sides};
 ghost use Rattle.cells.specs.Nodes.{cell_of};
 ghost use Rattle.cells.specs.Words.{WellFormed, Valid, switches, count, cells_of, switch_of, pushed, popped, Cut, StepOutcome, SameWorking, Operated};
 
-use super::layout::{
-    ALL, CELL_WORDS, CELLS, COUNT_WORD, EMPTY, HEADS, HIGH, LOW, N_WORD, NEXT, room,
-};
+use super::layout::{ALL, CELL_WORDS, COUNT_WORD, EMPTY, HEADS, N_WORD, NEXT, place, room};
 use super::node::Node;
 use super::questions::Cells;
 use stores::fault::StoreFault;
@@ -22,7 +21,7 @@ pub(crate) fn push_cell(words: &mut [u32], x: Node) -> u32
     let head = HEADS + x.chain();
     let older = words[head];
     x.write(words, cell);
-    words[CELLS + CELL_WORDS * cell as usize + NEXT] = older;
+    words[place(cell) + NEXT] = older;
     words[head] = cell;
     words[COUNT_WORD] = cell + 1;
     cell
@@ -71,7 +70,7 @@ pub(crate) fn pop_cell(words: &mut [u32])
     ensures { words.new ≡ popped words.old }
 {
     let cell = words[COUNT_WORD] - 1;
-    let place = CELLS + CELL_WORDS * cell as usize;
+    let place = place(cell);
     let head = HEADS + (Cells { words }).node(cell).chain();
     words[head] = words[place + NEXT];
     words[place..place + CELL_WORDS].fill(0);

@@ -1,7 +1,7 @@
 // The cells of a store, as they are read, and questions about their sets.
 ghost use Rattle.cells.specs.Words.{WellFormed};
 
-use super::layout::{ALL, CELL_WORDS, CELLS, EMPTY, FLOOR, HEADS, HIGH, LOW, NEXT};
+use super::layout::{ALL, EMPTY, FLOOR, HEADS, HIGH, LOW, NEXT, place};
 use super::node::Node;
 
 // The words of a store, to be read.
@@ -22,7 +22,7 @@ impl Cells<'_> {
         requires { cell < count self.now.words.now }
         ensures { cell_of result ≡ cell_at self.now.words.now cell }
     {
-        let place = CELLS + CELL_WORDS * cell as usize;
+        let place = place(cell);
         Node {
             switch: self.words[place],
             low: self.words[place + LOW],
@@ -35,7 +35,7 @@ impl Cells<'_> {
         requires { cell < count self.now.words.now }
         ensures { result ≡ next_at self.now.words.now cell }
     {
-        self.words[CELLS + CELL_WORDS * cell as usize + NEXT]
+        self.words[place(cell) + NEXT]
     }
 
     // The number of a cell, if it is held. Numbers fall along a chain, and a cell's is above its sides', so that the search can end there.

@@ -1,7 +1,7 @@
 // The working words, which remember the answers at pairs of cells while one operation runs, and are zero between operations.
-ghost use Rattle.std.specs.Prelude.{◌≡◌, ◌<◌, ◌≤◌, length, IfSome};
+ghost use Rattle.std.specs.Prelude.{◌≡◌, ◌+◌, ◌*◌, ◌<◌, ◌≤◌, length, IfSome};
 ghost use Rattle.operations.specs.Ops.{meaning};
-ghost use Rattle.cells.specs.Words.{count, Correct, Remembers, remembered, Swept};
+ghost use Rattle.cells.specs.Words.{count, Correct, Remembers, slot, remembered, Swept};
 
 use cells::layout::{CELLS, PAIRS, WORKING};
 use cells::questions::Cells;
@@ -10,6 +10,13 @@ use stores::connective::Connective;
 // The key of two cells is the first times this, and the second.
 const KEY: u32 = 65_536;
 
+// The pair of words for an operation on two cells.
+fn pair(a: u32, b: u32) -> usize
+    ensures { result ≡ 66 + 2 * slot a b }
+{
+    WORKING + 2 * ((a as usize + 3 * b as usize) % PAIRS)
+}
+
 // What is remembered of an operation on two cells.
 pub(crate) fn recall(cells: &Cells<'_>, op: Connective, a: u32, b: u32) -> Option<u32>
     requires remembers { Remembers (meaning op) cells.now.words.now }
@@ -17,7 +24,7 @@ pub(crate) fn recall(cells: &Cells<'_>, op: Connective, a: u32, b: u32) -> Optio
     requires b { b < count cells.now.words.now }
     ensures { IfSome result (λ x. Correct (meaning op) cells.now.words.now a b x) }
 {
-    let place = WORKING + 2 * ((a as usize + 3 * b as usize) % PAIRS);
+    let place = pair(a, b);
     if cells.words[place] == a * KEY + b {
         Some(cells.words[place + 1])
     } else {
@@ -31,7 +38,7 @@ pub(crate) fn remember(words: &mut [u32], a: u32, b: u32, r: u32)
     requires small { (a < 65536) × (b < 65536) }
     ensures { words.new ≡ remembered words.old a b r }
 {
-    let place = WORKING + 2 * ((a as usize + 3 * b as usize) % PAIRS);
+    let place = pair(a, b);
     words[place] = a * KEY + b;
     words[place + 1] = r;
 }
