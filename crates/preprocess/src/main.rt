@@ -2,10 +2,9 @@
 // refused gets the one line of its refusal, and status 1.
 #![tactic(auto)]
 
-use anyhow::anyhow;
 use expressions::line::only_name;
-use preprocessing::fault::PreprocessingFault;
 use preprocessing::preprocess;
+use reporting::refuse;
 use std::env;
 use std::io::{Read, Write};
 use std::process::ExitCode;
@@ -27,16 +26,6 @@ fn switch_of(option: &[u8]) -> Option<Switch<'_>> {
     match only_name(switch.name, 0, false, 0) {
         Ok(part) if part.text.len() == switch.name.len() => Some(switch),
         _ => None,
-    }
-}
-
-fn refuse(rt: &HostRuntime, fault: PreprocessingFault) -> anyhow::Result<ExitCode> {
-    match fault.refusal() {
-        Some(refusal) => {
-            println!(rt; "{refusal}")?;
-            Ok(ExitCode::FAILURE)
-        }
-        None => Err(anyhow!("out of memory")),
     }
 }
 
@@ -65,7 +54,7 @@ fn run(rt: &HostRuntime, options: &[String], source: &[u8]) -> anyhow::Result<Ex
             rt.stdout().write_all(output.as_slice())?;
             Ok(ExitCode::SUCCESS)
         }
-        Err(fault) => refuse(rt, fault),
+        Err(fault) => refuse(rt, fault.refusal()),
     }
 }
 
