@@ -1,18 +1,20 @@
 -- The questions about a line, and the rules by which it is written. Assumes nothing.
 --   hash_yes         what a pattern in front tells of `#`
 --   hash_first, lone_hash, last_is    each test decides what its rule says
---   final_step, final_none    the last byte of a line by its front, and of an empty line
+--   last_found, is_last    the last byte outside blanks is the first that is found from the end on
 --   lookup_listed, listed_lookup    the table has one directive for each name, and only for its names
 --   written_found, found_written    a line that is written as a directive has it, and a line with a directive is written as it
 --   Finds, finds     what `find` promises of its answer
 --   past_length, rest_within    what stands behind the name is no longer than what begins with it, and than the line
 --   found_by, found_none    the answer where `#` stands first, and where it does not
---   hash_some, alone_by, alone_none    the tests, by what stands behind `#`
-use Rattle.std.proofs.Common.{◌≡◌, ℕ, ◌+◌, ◌-◌, ◌≤◌, Bool, true, false, cond, eqb, ◌⊎◌, List, [], ◌∷◌, ◌++◌, length, get_or, take, drop, is_some, Some, None, Decides, Option, sym, refl, ap, ◌∙◌, subst, ap₂, inl, inr, arith, length-append, Bor, MatchOption}
+--   hash_some, alone_of    the tests, by what stands behind `#`
+use Rattle.std.proofs.Common.{reverse, not, ◌≡◌, ℕ, ◌-◌, ◌≤◌, Bool, true, false, cond, eqb, ◌⊎◌, List, [], ◌∷◌, ◌++◌, length, get_or, drop, is_some, Some, None, Decides, Option, sym, refl, ap, ◌∙◌, subst, ap₂, inl, inr, arith, length-append, Bor, MatchOption}
 use mathlib.Core.List.Memᴰ
 use mathlib.Core.List.{Memᴰ}
 use Rattle.std.specs.Str.{bytes_eq}
-use Rattle.std.proofs.lemmas.List.{append_assoc, drop_at, take_all, take_rest, take_more}
+use Rattle.std.specs.List.{find}
+use Rattle.std.specs.Option.{unwrap_or, option_map, option_eq}
+use Rattle.std.proofs.lemmas.List.{append_assoc, drop_at, take_rest, reverse-append, reverse-reverse}
 use Rattle.std.proofs.lemmas.Bool.{false≢true, eqb-true, eq-eqb, ne_eqb, and_parts, and_left}
 use Rattle.std.proofs.lemmas.Slice.Eq.{bytes_eq-Decides}
 use Rattle.text.specs.Reading.{Run}
@@ -22,7 +24,7 @@ use Rattle.directives.specs.Gaps.{Bytes, blank, between, skip, front, Blanks, Sk
 use Rattle.directives.specs.Directives.{run, past, table, lookup, rest, nil, hash, alone, named, directive_of, placed, found_in, final}
 use Rattle.directives.specs.Written.{Listed, Written, written, HashFirst, LoneHash, AllBlank, no_byte, one_more, LastIs}
 use Rattle.directives.proofs.Skips.{tail, solid_skip, blanks_skip, skipped_is, skipped, fronted_is, fronted}
-use Rattle.directives.proofs.Runs.{run_past, past_stops, run_run, run_is, past_is, run_solid, name_taken}
+use Rattle.directives.proofs.Runs.{run_past, past_stops, run_run, run_is, past_is, run_solid}
 
 -- `#` in front
 pub hash_yes : (s : Bytes) → 1 ≤ length s → get_or s 0 0 ≡ 35 → s ≡ 35 ∷ tail 1 s
@@ -87,17 +89,25 @@ final_more : (p : Bytes) (x z : ℕ) → final z (p ++ x ∷ []) ≡ cond (blank
 final_more [] x z = refl
 final_more (y ∷ p) x z = final_more p x (cond (blank y) z y)
 
-pub final_step : (s : Bytes) → 1 ≤ length s → (b : Bool) → blank (get_or s (length s - 1) 0) ≡ b
-    → final 0 s ≡ cond b (final 0 (take (length s - 1) s)) (get_or s (length s - 1) 0)
-final_step s h b q =
-    let n = length s - 1 in
-    let k : n + 1 ≡ length s = omega arith in
-    let e : s ≡ take n s ++ get_or s n 0 ∷ [] = sym (take_all (length s) s (omega arith)) ∙ ap (λ (m : ℕ). take m s) (sym k) ∙ take_more s n 0 (omega arith) in
-    ap (final 0) e ∙ final_more (take n s) (get_or s n 0) 0 ∙ ap (λ (t : Bool). cond t (final 0 (take n s)) (get_or s n 0)) q
+-- looked for from the end on
+abbrev pub solid_byte : ℕ → Bool
+solid_byte b = not (blank b)
 
-pub final_none : (s : Bytes) → length s ≡ 0 → final 0 s ≡ 0
-final_none [] h = refl
-final_none (x ∷ s) h = absurd (omega arith)
+final_found : (r : Bytes) → final 0 (reverse r) ≡ unwrap_or (find solid_byte r) 0
+final_found [] = refl
+final_found (x ∷ r) = ap (final 0) (reverse-append (x ∷ []) r) ∙ final_more (reverse r) x 0 ∙ go (blank x) (final_found r)
+  where
+    go : (b : Bool) → final 0 (reverse r) ≡ unwrap_or (find solid_byte r) 0 → cond b (final 0 (reverse r)) x ≡ unwrap_or (cond (not b) (Some x) (find solid_byte r)) 0
+    go true e = e
+    go false e = refl
+
+pub last_found : (l : Bytes) → final 0 l ≡ unwrap_or (find solid_byte (reverse l)) 0
+last_found l = ap (final 0) (sym (reverse-reverse l)) ∙ final_found (reverse l)
+
+pub is_last : (l : Bytes) (o : Option (Bor ℕ)) (r : Bor ℕ) → r.now ≡ 92 → option_map (λ x. x.now) o ≡ find solid_byte (reverse l)
+    → option_eq (λ x y. eqb x.now y.now) o (Some r) ≡ eqb (final 0 l) 92
+is_last l (Some b) r n e = ap (eqb b.now) n ∙ ap (λ (k : ℕ). eqb k 92) (sym (last_found l ∙ ap (λ (o : Option ℕ). unwrap_or o 0) (sym e)))
+is_last l None r n e = ap (λ (k : ℕ). eqb k 92) (sym (last_found l ∙ ap (λ (o : Option ℕ). unwrap_or o 0) (sym e)))
 
 -- The table.
 pub lookup_listed : (t : List (Bytes × Directive)) (n : Bytes) (d : Directive) → lookup t n ≡ Some d → Memᴰ (n, d) t
@@ -220,13 +230,12 @@ module _ (l a t s q : Bytes) (gap : a ≡ skip between l) (first : a ≡ 35 ∷ 
       let j = skip_length (skipped t) in
       omega (arith, past_length s q last, ap length gap, ap length first, ap length next)
 
-  pub found_by : (o : Option Directive) (k : ℕ) → k ≡ length s - length q → o ≡ lookup table (take k s) → placed o (length l - length q) ≡ found_in l
-  found_by o k c e =
+  pub found_by : (o : Option Directive) (w : Bytes) → w ≡ run s → o ≡ lookup table w → placed o (length l - length q) ≡ found_in l
+  found_by o w c e =
       let h : skip between l ≡ 35 ∷ t = sym gap ∙ first in
       let n : named l ≡ s = ap (λ (z : Bytes). skip between (rest z)) h ∙ sym next in
-      let w : take k s ≡ run s = ap (λ (m : ℕ). take m s) (c ∙ ap (λ (z : Bytes). length s - length z) last) ∙ name_taken s in
       let d : directive_of l ≡ lookup table (run s) = λ i. cond (hash (h i)) (lookup table (run (n i))) None in
-      ap₂ placed (e ∙ ap (lookup table) w ∙ sym d) (ap (λ (z : Bytes). length l - length z) (last ∙ ap past (sym n)))
+      ap₂ placed (e ∙ ap (lookup table) c ∙ sym d) (ap (λ (z : Bytes). length l - length z) (last ∙ ap past (sym n)))
 
 pub found_none : (l a : Bytes) → a ≡ skip between l → hash a ≡ false → None ≡ found_in l
 found_none l a e h =
@@ -242,8 +251,7 @@ nil_length : (s : Bytes) → eqb (length s) 0 ≡ nil s
 nil_length [] = refl
 nil_length (x ∷ s) = ne_eqb (length (x ∷ s)) 0 (λ e. omega arith)
 
-pub alone_by : (s t r : Bytes) → s ≡ 35 ∷ t → r ≡ skip between t → eqb (length r) 0 ≡ alone s
-alone_by s t r e h = nil_length r ∙ ap nil h ∙ sym (ap alone e)
-
-pub alone_none : (s : Bytes) → hash s ≡ false → alone s ≡ false
-alone_none s e = and_left (hash s) (nil (skip between (rest s))) e
+pub alone_of : {P : Bor Bytes → Type 0} (s : Bytes) (o : Option (Bor Bytes)) (b : Bool) → MatchOption o (hash s ≡ false) (λ t. s ≡ 35 ∷ t.now)
+    → MatchOption o (b ≡ false) P → ((t : Bor Bytes) → P t → b ≡ eqb (length (skip between t.now)) 0) → b ≡ alone s
+alone_of s (Some t) b e h k = k t h ∙ nil_length (skip between t.now) ∙ sym (ap alone e)
+alone_of s None b e h k = h ∙ sym (and_left (hash s) (nil (skip between (rest s))) e)

@@ -4,15 +4,13 @@
 --   run_run          a run that is not empty is one by the rules
 --   run_is, past_is  the run that the rules have, and what stands behind it
 --   run_solid        neither a blank nor a comment begins a run
---   name_taken       the name, as the front of s that is left without what stands behind the run
---   past_more, past_none     what a pattern in front tells of `past`
-use Rattle.std.proofs.Common.{◌≡◌, ℕ, ◌-◌, ◌≤◌, Bool, true, false, cond, not, ◌&&◌, ◌||◌, eqb, [], ◌∷◌, ◌++◌, length, get_or, take, sym, refl, ap, ◌∙◌, ap₂, arith, length-append}
-use Rattle.std.proofs.lemmas.List.{take_at, take_rest}
+--   behind_run       what is left behind the run, by its length
+use Rattle.std.proofs.Common.{◌≡◌, ℕ, ◌≤◌, Bool, true, false, cond, not, ◌&&◌, ◌||◌, eqb, [], ◌∷◌, ◌++◌, length, get_or, take, drop, sym, refl, ap, ◌∙◌, ap₂, arith}
+use Rattle.std.proofs.lemmas.List.{drop_at, length-take-le}
 use Rattle.std.proofs.lemmas.Bool.Decides.{nat_tests}
 use Rattle.text.specs.Reading.{Run, one_byte, more_bytes}
 use Rattle.directives.specs.Gaps.{Bytes, word_byte, blank, begins, solid}
 use Rattle.directives.specs.Directives.{run, past}
-use Rattle.directives.proofs.Skips.{tail}
 
 pub run_past : (s : Bytes) → run s ++ past s ≡ s
 run_past [] = refl
@@ -64,16 +62,8 @@ pub run_solid : {w : Bytes} (r : Bytes) → Run w → solid (w ++ r) ≡ true
 run_solid r (one_byte {x} e) = word_solid x r e
 run_solid r (more_bytes {x} {w} e a) = word_solid x (w ++ r) e
 
-pub name_taken : (s : Bytes) → take (length s - length (past s)) s ≡ run s
-name_taken s =
-    let e = run_past s in
-    let n : length (run s) ≡ length s - length (past s) = omega (arith, ap length e, length-append (run s) (past s)) in
-    ap (take (length s - length (past s))) (sym e) ∙ take_at (run s) (past s) (length s - length (past s)) n
-
-pub past_more : (s : Bytes) → 1 ≤ length s → word_byte (get_or s 0 0) ≡ true → past (tail 1 s) ≡ past s
-past_more [] h e = absurd (omega arith)
-past_more (x ∷ s) h e = ap past (take_rest (x ∷ s) 1) ∙ sym (ap (λ (b : Bool). cond b (past s) (x ∷ s)) e)
-
-pub past_none : (s : Bytes) → (1 ≤ length s → word_byte (get_or s 0 0) ≡ false) → s ≡ past s
-past_none [] h = refl
-past_none (x ∷ s) h = sym (ap (λ (b : Bool). cond b (past s) (x ∷ s)) (h (omega arith)))
+pub behind_run : (s : Bytes) (n : ℕ) → take n s ≡ run s → n ≤ length s → drop n s ≡ past s
+behind_run s n e h =
+    let p = run_past s in
+    let k : n ≡ length (run s) = sym (length-take-le n s h) ∙ ap length e in
+    ap (drop n) (sym p) ∙ drop_at (run s) (past s) n (sym k)

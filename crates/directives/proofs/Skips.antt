@@ -4,7 +4,7 @@
 --   solid_skip       where neither a blank nor a comment begins, nothing is skipped
 --   skipped, skipped_is      what `skip` leaves is left by the rule, and the rule leaves nothing else
 --   fronted, fronted_is      the same of `front`
---   skip_comment, skip_blank, skip_none, front-comment    what a pattern in front tells of `skip` and `front`
+--   skip_comment, skip_none    what a pattern in front tells of `skip` and `front`
 use Rattle.std.proofs.Common.{◌≡◌, ℕ, suc, ◌-◌, ◌<◌, ◌≤◌, Bool, true, false, cond, not, ◌&&◌, ◌||◌, eqb, ◌⊎◌, [], ◌∷◌, ◌++◌, length, get_or, take, drop, sym, refl, ap, ◌∙◌, subst, ap₂, inl, inr, arith, length-drop}
 use Rattle.std.proofs.lemmas.List.{append_assoc, append-nil, take_rest}
 use Rattle.std.proofs.lemmas.Bool.{false≢true, eqb-true, ne_eqb, cases_eq, and_parts, and_right, not-true}
@@ -174,11 +174,6 @@ skip_comment (x ∷ []) t h a b e = absurd (omega arith)
 skip_comment (x ∷ y ∷ s) t h a b e =
     let f : t ≡ drop (in_comment s) s = e ∙ ap (λ (z : Bytes). drop (in_comment z) z) (take_rest (x ∷ y ∷ s) 2) in
     (ap (skip between) f ∙ sym (inside_is s) ∙ (λ i. skip between (sym a i ∷ sym b i ∷ s)), omega (arith, ap length f, length-drop (in_comment s) s))
-
-pub skip_blank : (s : Bytes) → 1 ≤ length s → blank (get_or s 0 0) ≡ true → skip between (tail 1 s) ≡ skip between s
-skip_blank [] h b = absurd (omega arith)
-skip_blank (x ∷ s) h b =
-    ap (skip between) (take_rest (x ∷ s) 1) ∙ sym (ap (λ (t : Bool). cond t (skip between s) (cond (eqb x 47) (skip stroke s) (x ∷ s))) b)
 
 not_begins : (b : ℕ) (s : Bytes) → (get_or s 0 0 ≡ b → ⊥) → begins b s ≡ false
 not_begins b [] n = refl

@@ -1,4 +1,4 @@
-// The preprocessing directive of a source line. Uses the byte classes of `text`.
+// The preprocessing directive of a source line. Uses the bytes, runs and comments of `text`.
 // Promises: of every line that begins in code which of the ten directives it is, if any, and where the directive's name ends; of every line whether `#`
 // stands first, or alone, outside blanks and block comments, and whether its last byte outside blanks is a backslash.
 //
@@ -15,17 +15,18 @@ mod name;
 
 pub use gap::after_gap;
 use gap::{front_of, is_blank};
-use name::{after_name, directive_named};
+use name::directive_named;
+use text::run;
 
 // How a condition is written: `if EXPRESSION`, `ifdef NAME` or `ifndef NAME`.
-#[derive(Clone, Copy, Debug)]
+#[derive(Clone, Copy, PartialEq, Eq, Debug)]
 pub enum Form {
     Expression,
     Defined,
     Undefined,
 }
 
-#[derive(Clone, Copy, Debug)]
+#[derive(Clone, Copy, PartialEq, Eq, Debug)]
 pub enum Directive {
     If(Form),
     Elif(Form),
@@ -40,15 +41,15 @@ impl Directive {
     pub fn is_conditional(self) -> bool
         ensures { result ≡ conditional (Some self) }
     {
-        match self {
-            Directive::If(_) | Directive::Elif(_) | Directive::Else | Directive::Endif => true,
-            Directive::Define | Directive::Undef => false,
-        }
+        matches!(
+            self,
+            Directive::If(_) | Directive::Elif(_) | Directive::Else | Directive::Endif
+        )
     }
 }
 
 // A line's directive with the offset just behind its name.
-#[derive(Clone, Copy, Debug)]
+#[derive(Clone, Copy, PartialEq, Eq, Debug)]
 pub struct Found {
     pub directive: Directive,
     pub behind: usize,
@@ -72,8 +73,8 @@ pub fn find(line: &[u8]) -> Option<Found>
 {
     let tail = after_hash(after_gap(line))?;
     let text = after_gap(tail);
-    let rest = after_name(text);
-    let directive = directive_named(&text[0..text.len() - rest.len()])?;
+    let (name, rest) = text.split_at(run(text));
+    let directive = directive_named(name)?;
     Some(Found {
         directive,
         behind: line.len() - rest.len(),
@@ -93,10 +94,7 @@ pub fn is_lone_hash(line: &[u8], in_comment: bool) -> bool
     ensures value { result ≡ alone (front in_comment line.now) }
     ensures law { Decides result (LoneHash in_comment line.now) }
 {
-    match after_hash(front_of(line, in_comment)) {
-        Some(tail) => after_gap(tail).is_empty(),
-        None => false,
-    }
+    after_hash(front_of(line, in_comment)).is_some_and(|tail| after_gap(tail).is_empty())
 }
 
 // Is the line's last byte outside blanks a backslash?
@@ -104,12 +102,5 @@ pub fn ends_in_backslash(line: &[u8]) -> bool
     ensures value { result ≡ (final 0 line.now == 92) }
     ensures law { Decides result (LastIs 92 line.now) }
 {
-    let mut left = line;
-    while let [before @ .., last] = left {
-        if !is_blank(*last) {
-            return *last == b'\\';
-        }
-        left = before;
-    }
-    false
+    line.iter().rev().find(|b| !is_blank(**b)) == Some(&b'\\')
 }

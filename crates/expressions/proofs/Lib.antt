@@ -1,4 +1,3 @@
 pub mod Joins
 pub mod Terms
 pub mod Laws
-pub mod Cuts

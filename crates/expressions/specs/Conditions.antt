@@ -6,14 +6,14 @@
 --                          cannot go on, or one past the line
 --   Item                   a step: a constant, a name with its bytes, or an operation on what the steps before it left
 --   postfix e              the steps of e: operands first, left to right
---   item_at line s          the step s of the code, whose name is a part of the line
---   items line ss          the same for several
+--   item s                 the step s of the code
+--   items ss               the same for several
 --   alone, name_of, name_alone   a name and no token behind it
 --   only_name c line from   the one name from offset `from` on, or the number and the byte of the refusal: 13 where no name stands, 14 at a token behind it
 --   first_name c line from  the name that stands first from offset `from` on, whatever is behind it, or the number and the byte of the refusal
 --   surplus_at ps           the refusal of the first token
 --   nothing_at c line from  none, or the number and the byte of the refusal of the first token from offset `from` on
-use Rattle.std.specs.Prelude.{ℕ, suc, ◌-◌, Bool, List, [], ◌∷◌, ◌++◌, map, length, take, drop, Some, None, Ok, Err, Option, Result}
+use Rattle.std.specs.Prelude.{ℕ, suc, ◌-◌, Bool, List, [], ◌∷◌, ◌++◌, map, length, drop, Some, None, Ok, Err, Option, Result}
 use Rattle.text.specs.Tokens.{Bytes, Tok, nought, unit, defined, not, and, or, opened, closed, name, other, Placed, tokens_at}
 use Rattle.text.specs.Pulling.{place_or as place_in}
 use Rattle.expressions.specs.Grammar.{Expr, never, always, named, neg, conj, disj, parsed}
@@ -46,16 +46,16 @@ postfix (neg e) = postfix e ++ not-item ∷ []
 postfix (conj e f) = postfix e ++ (postfix f ++ and_item ∷ [])
 postfix (disj e f) = postfix e ++ (postfix f ++ or-item ∷ [])
 
-abbrev pub item_at : Bytes → Step → Item
-item_at line Never = false-item
-item_at line Always = true-item
-item_at line (Defined at len) = name_item (take len (drop (at - 1) line))
-item_at line Not = not-item
-item_at line And = and_item
-item_at line Or = or-item
+abbrev pub item : Step → Item
+item Never = false-item
+item Always = true-item
+item (Defined x) = name_item x.now
+item Not = not-item
+item And = and_item
+item Or = or-item
 
-abbrev pub items : Bytes → List Step → List Item
-items line steps = map (item_at line) steps
+abbrev pub items : List Step → List Item
+items steps = map item steps
 
 abbrev pub alone : Bytes → List Placed → Result Bytes (ℕ × ℕ)
 alone x [] = Ok x

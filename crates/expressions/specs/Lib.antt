@@ -1,6 +1,7 @@
 pub mod Grammar
 pub mod Derived
 pub mod Conditions
+pub mod Operands
 pub mod Faults
 pub mod Answers
 pub mod Examples

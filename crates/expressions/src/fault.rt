@@ -1,57 +1,69 @@
 // Why a line is no condition, by rising number.
 ghost use Rattle.std.specs.Prelude.{◌≡◌};
-ghost use Rattle.expressions.specs.Faults.{described};
+ghost use Rattle.text.specs.Pulling.{place};
+ghost use Rattle.expressions.specs.declared.fault.ExpressionFault.TheVariants.{Token as TokenAt};
 
 use faults::{Layer, Refusal};
+use text::Token;
 
-// Each names its line and, but for the first, the byte of the token that cannot go on, or one past the line.
+// Each names its line.
 #[derive(Clone, Copy, PartialEq, Eq, Debug)]
 pub enum ExpressionFault {
     // the line is longer than a line with a condition may be
-    LineTooLong { line: usize },
+    LineTooLong {
+        line: usize,
+    },
+    // the token that begins at this byte, or the end one past the line, cannot go on
+    Token {
+        reason: TokenFault,
+        line: usize,
+        byte: usize,
+    },
+}
+
+// Why a token cannot go on, each with its number.
+#[derive(Clone, Copy, PartialEq, Eq, Debug)]
+pub enum TokenFault {
     // a name must be there, and none or one that is not permitted is
-    NameDue { line: usize, byte: usize },
+    NameDue = 13,
     // another token that is wrong, missing or surplus
-    WrongToken { line: usize, byte: usize },
+    WrongToken = 14,
     // a name without `defined` where a term must be
-    BareName { line: usize, byte: usize },
+    BareName = 15,
     // one more `!` or `(` than may stand around one place
-    TooDeep { line: usize, byte: usize },
+    TooDeep = 16,
 }
 
 impl ExpressionFault {
-    pub fn refusal(self) -> Refusal
-        ensures { result ≡ described self }
+    // The fault of a token that cannot go on in the line of that number.
+    pub fn at(reason: TokenFault, line: usize, token: Token) -> ExpressionFault
+        ensures { result ≡ TokenAt reason line (place token.entry) }
     {
-        let layer = Layer::Expression;
-        match self {
+        ExpressionFault::Token {
+            reason,
+            line,
+            byte: token.part().at,
+        }
+    }
+}
+
+impl From<ExpressionFault> for Refusal {
+    ghost use Rattle.std.specs.Prelude.{◌≡◌};
+    ghost use Rattle.expressions.specs.Faults.{described};
+
+    ghost from_gives = { λ f r. r ≡ described f };
+
+    fn from(fault: ExpressionFault) -> Refusal {
+        match fault {
             ExpressionFault::LineTooLong { line } => Refusal {
                 number: 12,
                 layer: Layer::Lines,
                 line,
                 byte: 0,
             },
-            ExpressionFault::NameDue { line, byte } => Refusal {
-                number: 13,
-                layer,
-                line,
-                byte,
-            },
-            ExpressionFault::WrongToken { line, byte } => Refusal {
-                number: 14,
-                layer,
-                line,
-                byte,
-            },
-            ExpressionFault::BareName { line, byte } => Refusal {
-                number: 15,
-                layer,
-                line,
-                byte,
-            },
-            ExpressionFault::TooDeep { line, byte } => Refusal {
-                number: 16,
-                layer,
+            ExpressionFault::Token { reason, line, byte } => Refusal {
+                number: reason as u32,
+                layer: Layer::Expression,
                 line,
                 byte,
             },

@@ -8,15 +8,13 @@ ghost use Rattle.expressions.specs.Examples.{Examples};
 
 pub mod condition;
 pub mod fault;
-pub mod line;
+pub mod operand;
 
 // Holds no work: its contract is the laws of the grammar.
-pub fn grammar_law() -> u8
+pub fn grammar_law()
     ensures exact { Exact }
     ensures one { OneOnly }
     ensures place { AtFirst }
     ensures number { Numbered }
     ensures examples { Examples }
-{
-    0
-}
+{}

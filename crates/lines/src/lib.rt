@@ -2,7 +2,7 @@
 // Promises: which bytes a line has, and what stands behind it.
 #![tactic(auto)]
 
-ghost use Rattle.std.specs.Prelude.{◌≡◌, ℕ, ◌<◌, length};
+ghost use Rattle.std.specs.Prelude.{◌≡◌, ◌<◌, length};
 ghost use Rattle.lines.specs.Lines.{until_feed, past_feed, Divided, FirstLine};
 
 // The first line without its line feed, and what stands behind that line feed.

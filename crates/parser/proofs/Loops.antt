@@ -1,28 +1,24 @@
 -- Parts joined by one token, as the parser reads them, against the grammar.
 --   Looped op join t p q   from p, behind the first part, to q further parts were read, and their steps written
-use Rattle.std.proofs.Common.{◌≡◌, ℕ, zero, suc, ◌<◌, ◌≤◌, Bool, true, false, cond, List, [], ◌∷◌, ◌++◌, length, Ok, Err, Result, sym, refl, ap, ◌∙◌, subst, append_assoc, arith, length-append}
+use Rattle.std.proofs.Common.{append-nil, ◌≡◌, ℕ, zero, suc, ◌<◌, ◌≤◌, Bool, true, false, cond, List, [], ◌∷◌, ◌++◌, length, Ok, Err, Result, sym, refl, ap, ◌∙◌, subst, append_assoc, arith, length-append}
 use Rattle.text.specs.Tokens.{Tok, Placed}
 use Rattle.expressions.specs.Grammar.{Expr, Out, after, more, chain}
 use Rattle.expressions.specs.Conditions.{kinds, Item, postfix}
-use Rattle.parser.specs.Parsing.{next_is, ahead, written, Ready, Run, Advanced, Outcome}
+use Rattle.parser.specs.Parsing.{ahead, written, Run, Advanced, Outcome}
 use Rattle.expressions.specs.declared.fault.ExpressionFault.{ExpressionFault}
 use Rattle.parser.specs.declared.descent.Parser.{Parser}
+use Rattle.parser.proofs.Moves.{next_is}
 use Rattle.parser.proofs.Parts.{then, later, was_read, was_refused, reads, refuses, advanced_kinds}
 
 pub length_kinds : (ps : List Placed) → length (kinds ps) ≡ length ps
 length_kinds [] = refl
 length_kinds (p ∷ ps) = ap suc (length_kinds ps)
 
-none : (is : List Item) → is ++ [] ≡ is
-none [] = refl
-none (i ∷ is) = ap (λ (z : List Item). i ∷ z) (none is)
-
 pub record Looped (op : Tok → Bool) (join : Expr → Expr → Expr) (t : List Tok → Out) (p q : Parser) : Type 0 where
   pub past : List Placed
   pub steps : List Item
   pub run : Run p q past steps
   pub few : length steps ≤ length past
-  pub ready : Ready q
   pub joined : (e : Expr) → (k : ℕ) × (f : Expr) × (length (kinds (ahead q)) ≤ k) × (postfix f ≡ postfix e ++ steps)
       × (more op join t (length (kinds (ahead p))) e (kinds (ahead p)) ≡ more op join t k f (kinds (ahead q)))
 
@@ -31,10 +27,9 @@ module _ (op : Tok → Bool) (join : Expr → Expr → Expr) (t : List Tok → O
   begun p q u z o = record {
     past = [];
     steps = [];
-    run = record { line = refl; number = refl; ahead = refl; written = sym (none (written q)); len = omega arith };
+    run = record { line = refl; number = refl; ahead = refl; written = sym (append-nil (written q)) };
     few = omega arith;
-    ready = (was_read postfix p q z u o).3.ready;
-    joined = λ e. (length (kinds (ahead q)), e, omega arith, sym (none (postfix e)), refl);
+    joined = λ e. (length (kinds (ahead q)), e, omega arith, sym (append-nil (postfix e)), refl);
   }
 
   -- one more part
@@ -61,7 +56,7 @@ module _ (op : Tok → Bool) (join : Expr → Expr → Expr) (t : List Tok → O
 
   -- a turn of the loop, which ends by writing the step o
   module _ (p q q₁ q₂ q₃ : Parser) (o : Item) (u : Unit {0}) (l : Looped op join t p q) (n : next_is op (kinds (ahead q)) ≡ true) (a : Advanced q q₁)
-      (d : Outcome postfix q₁ q₂ (Ok u) (t (kinds (ahead q₁)))) (i : Run q₂ q₃ [] (o ∷ [])) (g : Ready q₃) where
+      (d : Outcome postfix q₁ q₂ (Ok u) (t (kinds (ahead q₁)))) (i : Run q₂ q₃ [] (o ∷ [])) where
     turned : Run q q₃ (a.0 ∷ ((was_read postfix q₁ q₂ (t (kinds (ahead q₁))) u d).3.past ++ [])) (postfix (was_read postfix q₁ q₂ (t (kinds (ahead q₁))) u d).0 ++ o ∷ [])
     turned = then a.1 (then (was_read postfix q₁ q₂ (t (kinds (ahead q₁))) u d).3.run i)
 
@@ -79,7 +74,6 @@ module _ (op : Tok → Bool) (join : Expr → Expr → Expr) (t : List Tok → O
           steps = l.steps ++ js;
           run = then l.run turned;
           few = omega (arith, l.few, w.3.few, length-append l.past (a.0 ∷ (w.3.past ++ [])), length-append w.3.past [], length-append l.steps js, length-append (postfix w.0) (o ∷ []));
-          ready = g;
           joined = λ e.
               let j = l.joined e in
               let rest : w.1 ≡ kinds (ahead q₃) = sym w.3.rest ∙ ap kinds i.ahead in
@@ -109,7 +103,6 @@ module _ (op : Tok → Bool) (join : Expr → Expr → Expr) (t : List Tok → O
           past = w.3.past ++ l.past;
           run = subst (Run p s (w.3.past ++ l.past)) (sym j.3) (then w.3.run l.run);
           few = omega (arith, ap length j.3, length-append (postfix w.0) l.steps, length-append w.3.past l.past, w.3.few, l.few);
-          ready = l.ready;
           rest = refl;
         })
 
@@ -123,9 +116,3 @@ module _ (op : Tok → Bool) (join : Expr → Expr → Expr) (t : List Tok → O
         (from_first w.0 w.1 w.2 w.3.rest ∙ j.4
         ∙ fails j.0 j.1 (kinds (ahead s)) (kinds (ahead s₁)) a.0.0 (v.0, v.1) j.2 (advanced_kinds s s₁ a.0 a.1) n v.2)
         (later (then w.3.run (then l.run a.1)) v.3)
-
-  pub unbegun : (p q : Parser) (y : Result (Unit {0}) ExpressionFault) (f : ExpressionFault) → y ≡ Err f → Outcome postfix p q (Err f) (t (kinds (ahead p)))
-      → Outcome postfix p q y (chain op join t (kinds (ahead p)))
-  unbegun p q y f h o =
-      let v = was_refused postfix p q (t (kinds (ahead p))) f o in
-      refuses postfix p q (chain op join t (kinds (ahead p))) y f v.0 v.1 h (ap (λ (z : Out). after z (λ e r. more op join t (length r) e r)) v.2) v.3

@@ -1,14 +1,27 @@
 -- One step of the parser against one of the grammar.
-use Rattle.std.proofs.Common.{◌≡◌, ℕ, suc, ◌+◌, ◌-◌, ◌<◌, List, [], ◌∷◌, ◌++◌, length, take, drop, set, Some, None, Option, sym, refl, ap, ◌∙◌, ap₂, add-one, arith, length-set, take-suc-set}
-use Rattle.std.proofs.lemmas.List.{map-append}
-use Rattle.text.specs.Tokens.{Bytes, Placed}
-use Rattle.text.specs.Pulling.{placed, place, bytes, left, place_or, Pulls}
+use Rattle.std.proofs.Common.{◌≡◌, ℕ, ◌<◌, List, [], ◌∷◌, Bool, true, false, length, Some, None, Option, sym, refl, ap, ◌∙◌, append-nil, rules, arith}
+use Rattle.text.specs.Tokens.{Tok, Placed}
+use Rattle.text.specs.Pulling.{placed, left, Pulls}
+use Rattle.text.specs.declared.scanner.Part.{Part}
 use Rattle.text.specs.declared.scanner.Token.{Token}
-use Rattle.text.specs.declared.scanner.Tokens.{Tokens}
-use Rattle.expressions.specs.Conditions.{item_at, items}
-use Rattle.parser.specs.Parsing.{before, ahead, line_of, written, Ready, Run, Advanced}
+use Rattle.text.specs.declared.scanner.Token.TheVariants.{And, Or, End}
+use Rattle.expressions.specs.Grammar.{is_and, is_or}
+use Rattle.std.proofs.lemmas.Grind.{common_steps}
+use Rattle.expressions.specs.Conditions.{items, kinds}
+use Rattle.parser.specs.Ahead.{before}
+use Rattle.parser.specs.Parsing.{ahead, written, Advanced}
 use Rattle.expressions.specs.declared.condition.Step.{Step}
+use Rattle.arrayvec.specs.ArrayVec.{ArrayVec}
 use Rattle.parser.specs.declared.descent.Parser.{Parser}
+
+-- the first token is one that op tells; there is no token
+abbrev pub next_is : (Tok → Bool) → List Tok → Bool
+next_is op [] = false
+next_is op (t ∷ r) = op t
+
+abbrev pub none_left : List Placed → Bool
+none_left [] = true
+none_left (x ∷ r) = false
 
 -- the first of what is ahead
 front : (o : Option Placed) (ps : List Placed) → 0 < length (before o ps) → (x : Placed) × (before o ps ≡ x ∷ ps)
@@ -19,55 +32,32 @@ pub pulled : (o : Option Placed) (ps qs : List Placed) → Pulls o ps qs → bef
 pulled None ps qs h = sym h.0
 pulled (Some x) ps qs h = sym h
 
-append_none : {A : Type 0} (q : List A) → q ++ [] ≡ q
-append_none [] = refl
-append_none (x ∷ q) = ap (λ z. x ∷ z) (append_none q)
-
-pub advanced : (p : Parser) (tk : Tokens) (t : Token) → Ready p → 0 < length (ahead p)
-    → Pulls (placed t) (left p.tokens) (left tk)
-    → place t ≡ place_or (suc (length (line_of p))) (left p.tokens)
-    → bytes t ≡ take (length (bytes t)) (drop (place t - 1) (line_of p))
-    → tk.line ≡ p.tokens.line
-    → Advanced p (record { tokens = tk; token = t; number = p.number; steps = p.steps; len = p.len })
-advanced p tk t g h k at part same =
-    let q : Parser = record { tokens = tk; token = t; number = p.number; steps = p.steps; len = p.len } in
+pub advanced : (p q : Parser) → 0 < length (ahead p) → Pulls (placed q.token) (left p.tokens) (left q.tokens)
+    → q.tokens.line ≡ p.tokens.line → q.number ≡ p.number → q.steps ≡ p.steps → Advanced p q
+advanced p q h k same number steps =
     let x = front (placed p.token) (left p.tokens) h in
-    let rest : ahead q ≡ left p.tokens = pulled (placed t) (left p.tokens) (left tk) k in
-    let bs : line_of q ≡ line_of p = ap (λ r. r.now) same in
-    let way : ahead p ≡ x.0 ∷ ahead q = x.1 ∙ ap (λ (z : List Placed). x.0 ∷ z) (sym rest) in (
+    let rest : ahead q ≡ left p.tokens = pulled (placed q.token) (left p.tokens) (left q.tokens) k in (
       x.0,
       record {
-        line = bs;
-        number = refl;
-        ahead = way;
-        written = ap (λ (b : Bytes). items b (take p.len p.steps)) bs ∙ sym (append_none (written p));
-        len = omega arith;
-      },
-      record {
-        at = at ∙ ap₂ (λ (b : Bytes) (z : List Placed). place_or (suc (length b)) z) (sym bs) (sym rest);
-        part = part ∙ ap (λ (b : Bytes). take (length (bytes t)) (drop (place t - 1) b)) (sym bs);
-        room = omega (arith, g.room, ap length way);
-        size = g.size;
+        line = ap (λ r. r.now) same;
+        number = number;
+        ahead = x.1 ∙ ap (λ (z : List Placed). x.0 ∷ z) (sym rest);
+        written = ap (λ (v : ArrayVec Step). items v.items) steps ∙ sym (append-nil (written p));
       },
     )
 
-module _ (p : Parser) (step : Step) (g : Ready p) (h : p.len + length (ahead p) < 255) where
-  abbrev emitted : Parser
-  emitted = record { tokens = p.tokens; token = p.token; number = p.number; steps = set p.steps p.len step; len = p.len + 1 }
+-- what the current token tells of what is ahead
+pub next_yes : (op : Tok → Bool) (p : Parser) (t : Tok) (at : ℕ) → placed p.token ≡ Some (t, at) → op t ≡ true → next_is op (kinds (ahead p)) ≡ true
+next_yes op p t at e h = ap (λ (o : Option Placed). next_is op (kinds (before o (left p.tokens)))) e ∙ h
 
-  one_more : take (p.len + 1) (set p.steps p.len step) ≡ take p.len p.steps ++ step ∷ []
-  one_more =
-      let lt : p.len < length p.steps = omega (arith, g.size) in
-      ap (λ (n : ℕ). take n (set p.steps p.len step)) (add-one p.len) ∙ take-suc-set p.steps p.len step lt
+pub not_and : (t : Token) (ps : List Placed) → ((x : Part) → t ≡ And x → ⊥) → next_is is_and (kinds (before (placed t) ps)) ≡ false
+not_and t ps h = search rules
 
-  pub emitted_run : Run p emitted [] (item_at (line_of p) step ∷ [])
-  emitted_run = record {
-    line = refl;
-    number = refl;
-    ahead = refl;
-    written = ap (items (line_of p)) one_more ∙ map-append (item_at (line_of p)) (take p.len p.steps) (step ∷ []);
-    len = refl;
-  }
+pub not_or : (t : Token) (ps : List Placed) → ((x : Part) → t ≡ Or x → ⊥) → next_is is_or (kinds (before (placed t) ps)) ≡ false
+not_or t ps h = grind (arith, common_steps)
 
-  pub emitted_ready : Ready emitted
-  emitted_ready = record { at = g.at; part = g.part; room = omega arith; size = length-set p.steps p.len step ∙ g.size }
+pub not_end : (t : Token) (ps : List Placed) → ((x : Part) → t ≡ End x → ⊥) → none_left (before (placed t) ps) ≡ false
+not_end t ps h = grind (arith, common_steps)
+
+pub none_ahead : (p : Parser) → placed p.token ≡ None → none_left (ahead p) ≡ true
+none_ahead p e = ap (λ (o : Option Placed). none_left (before o (left p.tokens))) e

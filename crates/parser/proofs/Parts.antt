@@ -1,15 +1,16 @@
 -- The parts of an expression as the parser reads them, against the grammar.
-use Rattle.std.proofs.Common.{◌≡◌, ℕ, suc, ◌+◌, ◌-◌, ◌<◌, ◌≤◌, Bool, true, false, cond, List, [], ◌∷◌, ◌++◌, length, take, drop, IsErrAnd, Some, None, Ok, Err, Option, Result, sym, refl, ap, ◌∙◌, subst, ap₂, append_assoc, arith, length-append}
+use Rattle.std.proofs.Common.{append-nil, ◌≡◌, ℕ, suc, ◌+◌, ◌<◌, ◌≤◌, Bool, true, false, cond, List, [], ◌∷◌, ◌++◌, length, IsErrAnd, Some, None, Ok, Err, Option, Result, sym, refl, ap, ◌∙◌, subst, ap₂, append_assoc, arith, length-append}
 use Rattle.std.proofs.lemmas.Result.{err_from_is_err_and}
+use Rattle.std.proofs.lemmas.List.{length-map}
 use Rattle.text.specs.Tokens.{Bytes, Tok, nought, unit, defined, not, and, or, opened, closed, name, other, Placed}
-use Rattle.text.specs.Pulling.{placed, place, bytes, left, place_or}
+use Rattle.text.specs.Pulling.{placed, place, left, place_or}
 use Rattle.text.specs.declared.scanner.Part.{Part}
-use Rattle.text.specs.declared.scanner.Token.{Token}
 use Rattle.text.specs.declared.scanner.Token.TheVariants.{Name}
 use Rattle.expressions.specs.Grammar.{Expr, named, is_close, Out, after, closing, inside, name_due}
-use Rattle.expressions.specs.Conditions.{kinds, Item, name_item, item_at, postfix}
+use Rattle.expressions.specs.Conditions.{kinds, Item, item, postfix}
 use Rattle.expressions.specs.Faults.{refused, described}
-use Rattle.parser.specs.Parsing.{next_is, is_open, name_first, before, ahead, line_of, written, Ready, Run, Advanced, Read, Refused, Outcome}
+use Rattle.parser.specs.Ahead.{before}
+use Rattle.parser.specs.Parsing.{name_first, ahead, written, Run, Advanced, Read, Refused, Outcome}
 use Rattle.expressions.specs.declared.condition.Step.TheVariants.{Defined}
 use Rattle.expressions.specs.declared.fault.ExpressionFault.{ExpressionFault}
 use Rattle.parser.specs.declared.descent.Parser.{Parser}
@@ -23,7 +24,6 @@ then {p} {q} {r} {s} {t} {is} {js} a b = record {
   number = b.number ∙ a.number;
   ahead = a.ahead ∙ ap (λ (z : List Placed). s ++ z) b.ahead ∙ sym (append_assoc s t (ahead r));
   written = b.written ∙ ap (λ (z : List Item). z ++ js) a.written ∙ append_assoc (written p) is js;
-  len = omega (arith, a.len, b.len, length-append is js);
 }
 
 -- what the exit of a `?` answers
@@ -31,16 +31,16 @@ pub exits : {A : Type 0} (y : Result A ExpressionFault) (f : ExpressionFault) �
 exits y f h = let p = err_from_is_err_and y h in p.1 ∙ ap Err p.2
 
 -- refused at the first token ahead, or later
-pub here : (p : Parser) (f : ExpressionFault) (n : ℕ) → Ready p → described f ≡ refused n p.number (place p.token) → Refused p f n (kinds (ahead p))
-here p f n g e = record { past = []; from = ahead p; split = refl; rest = refl; fault = e ∙ ap (λ (b : ℕ). refused n p.number b) g.at }
+pub here : (p : Parser) (f : ExpressionFault) (n : ℕ) → described f ≡ refused n p.number (place p.token) → Refused p f n (kinds (ahead p))
+here p f n e = record { past = []; behind = ahead p; split = refl; rest = refl; fault = e ∙ ap (λ (b : ℕ). refused n p.number b) p.at }
 
 pub later : {p q : Parser} {s : List Placed} {is : List Item} {f : ExpressionFault} {n : ℕ} {r : List Tok} → Run p q s is → Refused q f n r → Refused p f n r
 later {p} {q} {s} {is} {f} {n} {r} a b = record {
   past = s ++ b.past;
-  from = b.from;
-  split = a.ahead ∙ ap (λ (z : List Placed). s ++ z) b.split ∙ sym (append_assoc s b.past b.from);
+  behind = b.behind;
+  split = a.ahead ∙ ap (λ (z : List Placed). s ++ z) b.split ∙ sym (append_assoc s b.past b.behind);
   rest = b.rest;
-  fault = b.fault ∙ ap₂ (λ (m : ℕ) (l : Bytes). refused n m (place_or (suc (length l)) b.from)) a.number a.line;
+  fault = b.fault ∙ ap₂ (λ (m : ℕ) (l : Bytes). refused n m (place_or (suc (length l)) b.behind)) a.number a.line;
 }
 
 -- what an answer says
@@ -65,20 +65,6 @@ module _ (w : Expr → List Item) (p q : Parser) (z : Out) where
   pub refuses : (y : Answer) (f : ExpressionFault) (n : ℕ) (r : List Tok) → y ≡ Err f → z ≡ Err (n, r) → Refused p f n r → Outcome w p q y z
   refuses y f n r k h d = subst (λ (y : Answer). Outcome w p q y z) (sym k) (subst (Outcome w p q (Err f)) (sym h) d)
 
-  pub still_ready : (u : Unit {0}) → Outcome w p q (Ok u) z → Ready q
-  still_ready u o = (was_read u o).3.ready
-
--- the current token is not the end
-pub some_ahead : (p : Parser) (x : Placed) → placed p.token ≡ Some x → 0 < length (ahead p)
-some_ahead p x e = let k : ahead p ≡ x ∷ left p.tokens = ap (λ (o : Option Placed). before o (left p.tokens)) e in omega (arith, ap length k)
-
-pub next_ahead : (op : Tok → Bool) (p : Parser) → next_is op (kinds (ahead p)) ≡ true → 0 < length (ahead p)
-next_ahead op p e = go (ahead p) e
-  where
-    go : (ps : List Placed) → next_is op (kinds ps) ≡ true → 0 < length ps
-    go [] e = let z : ◌≡◌ {A = ℕ} 0 1 = cc in absurd (omega arith)
-    go (x ∷ ps) e = omega arith
-
 pub advanced_kinds : (p q : Parser) (x : Placed) → Run p q (x ∷ []) [] → kinds (ahead p) ≡ x.0 ∷ kinds (ahead q)
 advanced_kinds p q x a = ap kinds a.ahead
 
@@ -96,35 +82,28 @@ token_is p t at e = ap (λ (o : Option Placed). kinds (before o (left p.tokens))
 pub end_is : (p : Parser) → placed p.token ≡ None → kinds (ahead p) ≡ []
 end_is p e = ap (λ (o : Option Placed). kinds (before o (left p.tokens))) e
 
+length_items : (p : Parser) → length (written p) ≡ length p.steps.items
+length_items p = length-map p.steps.items item
+
 -- behind a token there is room for a step, and behind what it leads there is too
-pub room_behind : (p q : Parser) → Ready p → Advanced p q → q.len + length (ahead q) < 255
-room_behind p q g a = omega (arith, g.room, ap length a.1.ahead, a.1.len)
+pub room_behind : (p q : Parser) → Advanced p q → length q.steps.items + length (ahead q) < 255
+room_behind p q a = omega (arith, p.room, length_items p, length_items q, ap length a.1.ahead, ap length a.1.written, length-append (written p) [])
 
-pub room_later : (p q r : Parser) (z : Out) (u : Unit {0}) → Ready p → Advanced p q → Outcome postfix q r (Ok u) z → r.len + length (ahead r) < 255
-room_later p q r z u g a o =
-    let d = (was_read postfix q r z u o).3 in
-    omega (arith, room_behind p q g a, d.few, d.run.len, ap length d.run.ahead, length-append d.past (ahead r))
-
--- A closing parenthesis.
-closing_yes : (e : Expr) (ks r : List Tok) (t : Tok) → ks ≡ t ∷ r → next_is is_close ks ≡ true → closing e ks ≡ Ok (e, r)
-closing_yes e ks r t k h =
-    let i : is_close t ≡ true = sym (ap (next_is is_close) k) ∙ h in
-    ap (closing e) k ∙ ap (λ (b : Bool). cond b (Ok (e, r)) (Err (14, t ∷ r))) i
-
-closing_no : (e : Expr) (ks : List Tok) → next_is is_close ks ≡ false → closing e ks ≡ Err (14, ks)
-closing_no e [] h = refl
-closing_no e (t ∷ r) h = ap (λ (b : Bool). cond b (Ok (e, r)) (Err (14, t ∷ r))) h
-
-pub close_yes : (p q : Parser) → next_is is_close (kinds (ahead p)) ≡ true → Advanced p q → (e : Expr) → Outcome (λ _. []) p q (Ok tt) (closing e (kinds (ahead p)))
-close_yes p q h a e =
-    reads (λ _. []) p q (closing e (kinds (ahead p))) e (kinds (ahead q))
-    (closing_yes e (kinds (ahead p)) (kinds (ahead q)) a.0.0 (advanced_kinds p q a.0 a.1) h)
-    (record { past = a.0 ∷ []; run = a.1; few = omega arith; ready = a.2; rest = refl })
-
-pub close_no : (p q : Parser) (f : ExpressionFault) → Ready p → next_is is_close (kinds (ahead p)) ≡ false → described f ≡ refused 14 p.number (place p.token)
-    → (e : Expr) → Outcome (λ _. []) p q (Err f) (closing e (kinds (ahead p)))
-close_no p q f g h d e =
-    refuses (λ _. []) p q (closing e (kinds (ahead p))) (Err f) f 14 (kinds (ahead p)) refl (closing_no e (kinds (ahead p)) h) (here p f 14 g d)
+pub room_later : (p q r : Parser) (z : Out) (u : Unit {0}) → Advanced p q → Outcome postfix q r (Ok u) z → length r.steps.items + length (ahead r) < 255
+room_later p q r z u a o =
+    let w = was_read postfix q r z u o in
+    let d = w.3 in
+    omega (
+      arith,
+      room_behind p q a,
+      d.few,
+      length_items q,
+      length_items r,
+      ap length d.run.written,
+      length-append (written q) (postfix w.0),
+      ap length d.run.ahead,
+      length-append d.past (ahead r),
+    )
 
 -- what was read before goes with the parenthesis
 with_close : (p r s : Parser) (e : Expr) (ks : List Tok) (y : Answer) (past : List Placed) → Run p r past (postfix e) → length (postfix e) ≤ length past
@@ -137,15 +116,10 @@ with_close p r s e (t ∷ ks) y past a h o = go (is_close t) y o
     go true (Ok u) o =
         record {
           past = past ++ o.past;
-          run = subst (Run p s (past ++ o.past)) (none (postfix e)) (then a o.run);
+          run = subst (Run p s (past ++ o.past)) (append-nil (postfix e)) (then a o.run);
           few = omega (arith, h, length-append past o.past);
-          ready = o.ready;
           rest = o.rest;
         }
-      where
-        none : (is : List Item) → is ++ [] ≡ is
-        none [] = refl
-        none (i ∷ is) = ap (λ (z : List Item). i ∷ z) (none is)
     go true (Err f) o = absurd o
     go false (Ok u) o = absurd o
     go false (Err f) o = later a o
@@ -167,24 +141,15 @@ through w p q r s z k y f a h o =
     refuses postfix p s (after z k) y f d.0 d.1 h (ap (λ (z : Out). after z k) d.2) (later a.1 d.3)
 
 -- A name.
-pub name_yes : (p q r : Parser) (part : Part) → Ready p → p.token ≡ Name part → Advanced p q
-    → Run q r [] (item_at (line_of q) (Defined part.at (length part.text.now)) ∷ []) → Ready r
+pub name_yes : (p q r : Parser) (part : Part) → p.token ≡ Name part → Advanced p q
+    → Run q r [] (item (Defined part.text) ∷ [])
     → Outcome postfix p r (Ok tt) (name_first (kinds (ahead p)))
-name_yes p q r part g t a b c =
+name_yes p q r part t a b =
     let x = part.text.now in
     let k : kinds (ahead p) ≡ name x ∷ kinds (ahead q) = head_is p q (name x) part.at (ap placed t) a in
-    let m : x ≡ take (length x) (drop (part.at - 1) (line_of p)) =
-    subst (λ (t : Token). bytes t ≡ take (length (bytes t)) (drop (place t - 1) (line_of p))) t g.part in
-    let i : take (length x) (drop (part.at - 1) (line_of q)) ≡ x = ap (λ (l : Bytes). take (length x) (drop (part.at - 1) l)) a.1.line ∙ sym m in
     reads postfix p r (name_first (kinds (ahead p))) (named x) (kinds (ahead r))
     (ap name_first k ∙ ap (λ (ps : List Placed). Ok (named x, kinds ps)) b.ahead)
-    (record {
-      past = a.0 ∷ [];
-      run = subst (λ (y : Bytes). Run p r (a.0 ∷ []) (name_item y ∷ [])) i (then a.1 b);
-      few = omega arith;
-      ready = c;
-      rest = refl;
-    })
+    (record { past = a.0 ∷ []; run = then a.1 b; few = omega arith; rest = refl })
 
 -- What stands behind `defined`.
 inside_is : (ks : List Tok) → inside ks ≡ after (name_first ks) closing
@@ -200,32 +165,5 @@ inside_is (closed ∷ r) = refl
 inside_is (name x ∷ r) = refl
 inside_is (other ∷ r) = refl
 
-due_open : (t : Tok) (r : List Tok) → is_open t ≡ true → name_due (t ∷ r) ≡ after (name_first r) closing
-due_open nought r e = cc
-due_open unit r e = cc
-due_open defined r e = cc
-due_open not r e = cc
-due_open and r e = cc
-due_open or r e = cc
-due_open opened r e = inside_is r
-due_open closed r e = cc
-due_open (name x) r e = cc
-due_open other r e = cc
-
-pub due_name : (ks : List Tok) → next_is is_open ks ≡ false → name_first ks ≡ name_due ks
-due_name [] e = refl
-due_name (nought ∷ r) e = refl
-due_name (unit ∷ r) e = refl
-due_name (defined ∷ r) e = refl
-due_name (not ∷ r) e = refl
-due_name (and ∷ r) e = refl
-due_name (or ∷ r) e = refl
-due_name (opened ∷ r) e = cc
-due_name (closed ∷ r) e = refl
-due_name (name x ∷ r) e = refl
-due_name (other ∷ r) e = refl
-
-pub due_wrapped : (p q : Parser) → next_is is_open (kinds (ahead p)) ≡ true → Advanced p q → after (name_first (kinds (ahead q))) closing ≡ name_due (kinds (ahead p))
-due_wrapped p q h a =
-    let k = advanced_kinds p q a.0 a.1 in
-    sym (ap name_due k ∙ due_open a.0.0 (kinds (ahead q)) (sym (ap (next_is is_open) k) ∙ h))
+pub due_wrapped : (p q : Parser) (at : ℕ) → placed p.token ≡ Some (opened, at) → Advanced p q → after (name_first (kinds (ahead q))) closing ≡ name_due (kinds (ahead p))
+due_wrapped p q at s a = sym (ap name_due (head_is p q opened at s a) ∙ inside_is (kinds (ahead q)))

@@ -3,10 +3,8 @@
 // cannot go on.
 #![tactic(auto)]
 
-ghost use Rattle.std.specs.Prelude.{◌≡◌, ◌<◌, ◌≤◌, length, Err};
-ghost use Rattle.text.specs.Tokens.{tokens_at};
-ghost use Rattle.expressions.specs.declared.fault.ExpressionFault.TheVariants.{LineTooLong};
 ghost use Rattle.expressions.specs.Conditions.{condition_at};
+ghost use Rattle.expressions.specs.Operands.{tokens_in, Short, RefusesLong};
 ghost use Rattle.expressions.specs.Answers.{Answered, Conforms};
 ghost use Rattle.expressions.specs.Derived.{Exact, OneOnly, AtFirst, Numbered};
 ghost use Rattle.expressions.specs.Examples.{Examples};
@@ -14,33 +12,24 @@ ghost use Rattle.expressions.specs.Examples.{Examples};
 mod descent;
 
 use descent::Parser;
-use expressions::condition::{Condition, MAX_LINE};
+use expressions::condition::Condition;
 use expressions::fault::ExpressionFault;
+use expressions::operand::Operand;
 
-// The condition that stands in `line` from offset `from` on, where comments may be known. The line comes without its line feed; faults name it by `number`.
-pub fn condition<'a>(
-    line: &'a [u8],
-    from: usize,
-    comments: bool,
-    number: usize,
-) -> Result<Condition<'a>, ExpressionFault>
-    ensures long { 255 < length line.now → result ≡ Err (LineTooLong number) }
-    ensures reads { length line.now ≤ 255 → Answered line.now number (condition_at comments line.now from) result }
-    ensures grammar { length line.now ≤ 255 → Conforms line.now (tokens_at comments line.now from) result }
+// The condition that stands there, where comments may be known. The line comes without its line feed; faults name it by its number.
+pub fn condition<'a>(operand: Operand<'a>) -> Result<Condition<'a>, ExpressionFault>
+    ensures long { RefusesLong operand.entry result }
+    ensures reads { let o = operand.entry in Short o → Answered o.number (condition_at o.comments o.line.now o.from) result }
+    ensures grammar { let o = operand.entry in Short o → Conforms o.line.now (tokens_in o) result }
     ensures exact { Exact }
     ensures one { OneOnly }
     ensures place { AtFirst }
     ensures number { Numbered }
     ensures examples { Examples }
 {
-    if line.len() > MAX_LINE {
-        return Err(ExpressionFault::LineTooLong { line: number });
-    }
-    let mut parser = Parser::new(line, from, comments, number);
+    let mut parser = Parser::new(operand)?;
     parser.complete()?;
     Ok(Condition {
-        line,
         steps: parser.steps,
-        len: parser.len,
     })
 }

@@ -1,4 +1,4 @@
-use Rattle.std.proofs.Common.{◌≡◌, Err, Result, sym, refl, ap, subst, arith}
+use Rattle.std.proofs.Common.{◌≡◌, Err, Result, sym, refl, subst, arith}
 use Rattle.text.specs.Tokens.{tokens_at}
 use Rattle.expressions.specs.declared.condition.Condition.{Condition}
 use Rattle.expressions.specs.declared.fault.ExpressionFault.{ExpressionFault}
@@ -9,25 +9,34 @@ use Rattle.parser.proofs.Parts.{exits}
 use Rattle.parser.proofs.Lines.{answered, conforms, refused_answer, refused_place}
 use Rattle.parser.proofs.condition.Goals as goal
 
-pub returns-then-line-gt-MAX_LINE : goal.returns-then-line-gt-MAX_LINE
-returns-then-line-gt-MAX_LINE c = record { long = λ _. refl; reads = λ h. absurd (omega arith); grammar = λ h. absurd (omega arith); exact = exact; one = one_only; place = at_first; number = numbered; examples = examples }
+pub returns-in_err-parser-clause-exact : goal.returns-in_err-parser-clause-exact
+returns-in_err-parser-clause-exact c = exact
+
+pub returns-in_err-parser-clause-one : goal.returns-in_err-parser-clause-one
+returns-in_err-parser-clause-one c = one_only
+
+pub returns-in_err-parser-clause-place : goal.returns-in_err-parser-clause-place
+returns-in_err-parser-clause-place c = at_first
+
+pub returns-in_err-parser-clause-number : goal.returns-in_err-parser-clause-number
+returns-in_err-parser-clause-number c = numbered
 
 pub returns-in_err-complete : goal.returns-in_err-complete
 returns-in_err-complete c =
+    let o = c.args.operand in
+    let b = c.in_ok-parser.ensures.begun.1 in
     let f = c.in_err-complete.field-0.0 in
-    let e : c.from_residual.result ≡ Err f = exits c.from_residual.result f c.from_residual.ensures.1 in
+    let e : c.from_residual-in_err-complete.result ≡ Err f = exits c.from_residual-in_err-complete.result f c.from_residual-in_err-complete.ensures.1 in
     record {
-      long = λ h. absurd (omega arith);
+      long = λ h. absurd (omega (arith, c.in_ok-parser.ensures.begun.0));
       reads = λ h.
-          subst (λ (y : Result Condition ExpressionFault). Answered c.args.line.now c.args.number (condition_at c.args.comments c.args.line.now c.args.from) y) (sym e)
-          (refused_answer c.args.line.now (tokens_at c.args.comments c.args.line.now c.args.from) c.args.number c.new-parser.result c.complete.new.self
-          c.new-parser.ensures.ahead (ap (λ r. r.now) c.new-parser.ensures.line) c.new-parser.ensures.number c.new-parser.ensures.len
-          f c.in_err-complete.ensures);
+          subst (λ (y : Result Condition ExpressionFault). Answered o.number (condition_at o.comments o.line.now o.from) y) (sym e)
+          (refused_answer o.line.now (tokens_at o.comments o.line.now o.from) o.number c.in_ok-parser.parser c.complete.new.self
+          b.ahead b.line b.number b.written f c.in_err-complete.ensures);
       grammar = λ h.
-          subst (λ (y : Result Condition ExpressionFault). Conforms c.args.line.now (tokens_at c.args.comments c.args.line.now c.args.from) y) (sym e)
-          (refused_place c.args.line.now (tokens_at c.args.comments c.args.line.now c.args.from) c.args.number c.new-parser.result c.complete.new.self
-          c.new-parser.ensures.ahead (ap (λ r. r.now) c.new-parser.ensures.line) c.new-parser.ensures.number c.new-parser.ensures.len
-          f c.in_err-complete.ensures);
+          subst (λ (y : Result Condition ExpressionFault). Conforms o.line.now (tokens_at o.comments o.line.now o.from) y) (sym e)
+          (refused_place o.line.now (tokens_at o.comments o.line.now o.from) o.number c.in_ok-parser.parser c.complete.new.self
+          b.ahead b.line b.number b.written f c.in_err-complete.ensures);
       exact = exact;
       one = one_only;
       place = at_first;
@@ -36,19 +45,20 @@ returns-in_err-complete c =
     }
 
 pub returns : goal.returns
-returns c = record {
-  long = λ h. absurd (omega arith);
-  reads = λ h.
-      answered c.args.line.now (tokens_at c.args.comments c.args.line.now c.args.from) c.args.number c.new-parser.result c.complete.new.self
-      c.new-parser.ensures.ahead (ap (λ r. r.now) c.new-parser.ensures.line) c.new-parser.ensures.number c.new-parser.ensures.len
-      (record { line = c.args.line; steps = c.complete.new.self.steps; len = c.complete.new.self.len }) refl refl refl c.in_ok-complete.ensures;
-  grammar = λ h.
-      conforms c.args.line.now (tokens_at c.args.comments c.args.line.now c.args.from) c.args.number c.new-parser.result c.complete.new.self
-      c.new-parser.ensures.ahead (ap (λ r. r.now) c.new-parser.ensures.line) c.new-parser.ensures.number c.new-parser.ensures.len
-      (record { line = c.args.line; steps = c.complete.new.self.steps; len = c.complete.new.self.len }) refl refl refl c.in_ok-complete.ensures;
-  exact = exact;
-  one = one_only;
-  place = at_first;
-  number = numbered;
-  examples = examples;
-}
+returns c =
+    let o = c.args.operand in
+    let b = c.in_ok-parser.ensures.begun.1 in
+    record {
+      long = λ h. absurd (omega (arith, c.in_ok-parser.ensures.begun.0));
+      reads = λ h.
+          answered o.line.now (tokens_at o.comments o.line.now o.from) o.number c.in_ok-parser.parser c.complete.new.self
+          b.ahead b.line b.number b.written (record { steps = c.complete.new.self.steps }) refl c.in_ok-complete.ensures;
+      grammar = λ h.
+          conforms o.line.now (tokens_at o.comments o.line.now o.from) o.number c.in_ok-parser.parser c.complete.new.self
+          b.ahead b.line b.number b.written (record { steps = c.complete.new.self.steps }) refl c.in_ok-complete.ensures;
+      exact = exact;
+      one = one_only;
+      place = at_first;
+      number = numbered;
+      examples = examples;
+    }

@@ -1,18 +1,11 @@
-use Rattle.std.proofs.Common.{◌≡◌, ◌≤◌, false, length, get_or, sym, ◌∙◌, rules}
+use Rattle.std.proofs.Common.{◌≡◌, ◌≤◌, false, length, get_or, ◌∙◌, rules}
 use Rattle.directives.specs.Gaps.{blank}
-use Rattle.directives.proofs.Skips.{skip_comment, skip_blank, stopped}
+use Rattle.directives.proofs.Skips.{skip_comment, stopped}
 use Rattle.directives.proofs.gap.after_gap.Goals as goal
-
-pub loop-rest-smaller-in-42-1 : goal.loop-rest-smaller-in-42-1
-loop-rest-smaller-in-42-1 c =
-    (skip_comment c.loop-rest.rest.now c.after_comment-rest.result.now (search rules) (search rules) (search rules) c.after_comment-rest.ensures).1
 
 pub loop-rest-preserved-in-42-1 : goal.loop-rest-preserved-in-42-1
 loop-rest-preserved-in-42-1 c =
-    (skip_comment c.loop-rest.rest.now c.after_comment-rest.result.now (search rules) (search rules) (search rules) c.after_comment-rest.ensures).0 ∙ c.loop-rest.invariant
-
-pub loop-rest-preserved : goal.loop-rest-preserved
-loop-rest-preserved c = skip_blank c.loop-rest.rest.now (search rules) (sym c.if-is_blank.ensures) ∙ c.loop-rest.invariant
+    (skip_comment c.loop-rest.rest.now c.behind_comment-rest.result.now (search rules) (search rules) (search rules) c.behind_comment-rest.ensures).0 ∙ c.loop-rest.invariant
 
 pub returns-in_default : goal.returns-in_default
 returns-in_default c =

@@ -1,7 +1,6 @@
+use Rattle.std.proofs.Common.{refl}
 use Rattle.parser.proofs.Moves.{advanced}
 use Rattle.parser.proofs.descent.Parser.advance.Goals as goal
 
 pub returns : goal.returns
-returns c =
-    advanced c.args.self.now c.next-self.new.self c.next-self.result c.requires.ready c.requires.more
-    c.next-self.ensures.token c.next-self.ensures.place c.next-self.ensures.part c.next-self.ensures.line
+returns c = advanced c.args.self.now _ c.requires c.next-self.ensures.token c.next-self.ensures.line refl refl

@@ -1,8 +1,0 @@
-use Rattle.parser.proofs.Moves.{emitted_run, emitted_ready}
-use Rattle.parser.proofs.descent.Parser.emit.Goals as goal
-
-pub returns : goal.returns
-returns c = record {
-  run = emitted_run c.args.self.now c.args.step c.requires.ready c.requires.room;
-  ready = emitted_ready c.args.self.now c.args.step c.requires.ready c.requires.room;
-}
