@@ -7,7 +7,7 @@
 --   popped i st       the stack without that step's operands
 --   machine is st     the steps one after another; the last number left is the answer
 --   steps_of c         the steps of the condition c of the code
-use Rattle.std.specs.Prelude.{ℕ, List, [], ◌∷◌, take, Some, None, Option}
+use Rattle.std.specs.Prelude.{ℕ, List, [], ◌∷◌, Some, None, Option}
 use Rattle.stores.specs.Outcome.{Op, both, either, less}
 use Rattle.stores.specs.Steps.{Steps, done, then, asked}
 use Rattle.stores.specs.declared.fault.StoreFault.{StoreFault}
@@ -60,4 +60,4 @@ machine [] look none top st = done (first none st)
 machine (i ∷ is) look none top st = then (one i look none top st) (λ c. machine is look none top (c ∷ popped i st))
 
 abbrev pub steps_of : Condition → List Item
-steps_of c = items c.line.now (take c.len c.steps)
+steps_of c = items c.steps.items

@@ -8,12 +8,12 @@ ghost use Rattle.stores.specs.Outcome.{Advanced};
 ghost use Rattle.stores.specs.Steps.{Runs};
 ghost use Rattle.stores.specs.Sets.{empty};
 ghost use Rattle.expressions.specs.Grammar.{Expr};
-ghost use Rattle.expressions.specs.Conditions.{item_at, items, postfix};
+ghost use Rattle.expressions.specs.Conditions.{item, items, postfix};
 ghost use Rattle.evaluation.specs.Worked.{first, rest, one, popped as without, machine, worked, steps_of};
 ghost use Rattle.evaluation.specs.Meaning.{Denotes, Valued};
 
 use arrayvec::ArrayVec;
-use expressions::condition::{Condition, MAX_LINE, Step, name_at};
+use expressions::condition::{Condition, MAX_LINE, Step};
 use stores::Store;
 use stores::fault::StoreFault;
 
@@ -55,21 +55,20 @@ impl<E: Entries> Evaluator<E> {
     // The number that one step leaves. Its operands come off the stack.
     fn value<S: Store>(
         &self,
-        line: &[u8],
-        step: Step,
+        step: Step<'_>,
         stack: &mut Stack,
         store: &mut S,
     ) -> Result<u32, StoreFault>
         ensures advanced { Advanced S.model S.rollback store.old store.new }
-        ensures runs { Runs S.model S.rollback S.need (one (item_at line.now step) (E.lookup self.now.entries) self.now.known.none self.now.known.top (reverse stack.old.items)) store.old store.new result }
-        ensures popped { reverse stack.new.items ≡ without (item_at line.now step) (reverse stack.old.items) }
+        ensures runs { Runs S.model S.rollback S.need (one (item step.entry) (E.lookup self.now.entries) self.now.known.none self.now.known.top (reverse stack.old.items)) store.old store.new result }
+        ensures popped { reverse stack.new.items ≡ without (item step.entry) (reverse stack.old.items) }
         ensures len { array_vec_len stack.new ≤ array_vec_len stack.old }
     {
         match step {
             Step::Never => Ok(self.known.none),
             Step::Always => Ok(self.known.top),
-            Step::Defined { at, len } => {
-                let entry = self.entries.get(name_at(line, at, len));
+            Step::Defined(name) => {
+                let entry = self.entries.get(name);
                 Ok(entry.unwrap_or(self.known.none))
             }
             Step::Not => {
@@ -92,17 +91,16 @@ impl<E: Entries> Evaluator<E> {
     // Works the steps out in their order. The answer is the number that the last one left.
     fn work_steps<S: Store>(
         &self,
-        line: &[u8],
-        steps: &[Step],
+        steps: &[Step<'_>],
         store: &mut S,
     ) -> Result<u32, StoreFault>
         requires { length steps.now ≤ 255 }
         ensures advanced { Advanced S.model S.rollback store.old store.new }
-        ensures runs { Runs S.model S.rollback S.need (machine (items line.now steps.now) (E.lookup self.now.entries) self.now.known.none self.now.known.top []) store.old store.new result }
+        ensures runs { Runs S.model S.rollback S.need (machine (items steps.now) (E.lookup self.now.entries) self.now.known.none self.now.known.top []) store.old store.new result }
     {
         let mut stack = Stack::new();
         for step in steps {
-            let number = self.value(line, *step, &mut stack, store)?;
+            let number = self.value(*step, &mut stack, store)?;
             stack.push(number);
         }
         Ok(self.pop(&mut stack))
@@ -118,6 +116,6 @@ impl<E: Entries> Evaluator<E> {
         ensures runs { (e : Expr) → steps_of condition.now ≡ postfix e → Runs S.model S.rollback S.need (worked e (E.lookup self.now.entries) self.now.known.none self.now.known.top) store.old store.new result }
         ensures means { (e : Expr) → steps_of condition.now ≡ postfix e → Denotes (S.model store.old) self.now.known.none empty → Denotes (S.model store.old) self.now.known.top (S.model store.old).allowed → IfOk result (Valued (S.model store.old) (S.model store.new) (E.lookup self.now.entries) e) }
     {
-        self.work_steps(condition.line(), condition.steps(), store)
+        self.work_steps(condition.steps(), store)
     }
 }

@@ -2,10 +2,9 @@
 // refused gets the one line of its refusal, and status 1.
 #![tactic(auto)]
 
-use anyhow::anyhow;
 use expressions::operand::Operand;
-use preprocessing::fault::PreprocessingFault;
 use preprocessing::preprocess;
+use reporting::refuse;
 use std::env;
 use std::io::{Read, Write};
 use std::process::ExitCode;
@@ -34,16 +33,6 @@ fn switch_of(option: &[u8]) -> Option<Switch<'_>> {
     (name.text.len() == switch.name.len()).then_some(switch)
 }
 
-fn refuse(rt: &HostRuntime, fault: PreprocessingFault) -> anyhow::Result<ExitCode> {
-    match fault.refusal() {
-        Some(refusal) => {
-            println!(rt; "{refusal}")?;
-            Ok(ExitCode::FAILURE)
-        }
-        None => Err(anyhow!("out of memory")),
-    }
-}
-
 // Writes what the options' configuration keeps of the source.
 fn run(rt: &HostRuntime, options: &[String], source: &[u8]) -> anyhow::Result<ExitCode> {
     let heap = rt.alloc();
@@ -67,7 +56,7 @@ fn run(rt: &HostRuntime, options: &[String], source: &[u8]) -> anyhow::Result<Ex
             rt.stdout().write_all(output.as_slice())?;
             Ok(ExitCode::SUCCESS)
         }
-        Err(fault) => refuse(rt, fault),
+        Err(fault) => refuse(rt, fault.refusal()),
     }
 }
 

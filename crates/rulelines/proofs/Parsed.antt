@@ -1,5 +1,5 @@
 -- What was read of a line, as one answer: its length first, then its tokens.
-use Rattle.std.proofs.Common.{◌≡◌, ℕ, ◌<◌, ◌≤◌, Bool, true, false, cond, ltb, List, length, take, Some, None, Ok, Err, Option, Result, sym, refl, ap, subst, ⊎_elim, ltb-false, ltb-true}
+use Rattle.std.proofs.Common.{◌≡◌, ℕ, ◌<◌, ◌≤◌, Bool, true, false, cond, ltb, List, length, Some, None, Ok, Err, Option, Result, sym, refl, ap, subst, ⊎_elim, ltb-false, ltb-true}
 use Rattle.std.proofs.lemmas.Bool.{cases_Bool}
 use Rattle.faults.specs.declared.Refusal.{Refusal}
 use Rattle.text.specs.Tokens.{Bytes, Placed}
@@ -22,16 +22,16 @@ module _ (line : Bytes) (l : ℕ) where
       (cases_Bool (ltb 255 (length line)))
 
   abbrev ReadCondition : Result Condition ExpressionFault → Result Expr Refusal → Type 0
-  ReadCondition (Ok k) z = (k.line.now ≡ line) × ((e : Expr) × (z ≡ Ok e) × (items line (take k.len k.steps) ≡ postfix e))
+  ReadCondition (Ok k) z = (e : Expr) × (z ≡ Ok e) × (items k.steps.items ≡ postfix e)
   ReadCondition (Err f) z = z ≡ Err (described f)
 
-  condition_short : (z : Result Expr (ℕ × ℕ)) (r : Result Condition ExpressionFault) → Answered line l z r → ReadCondition r (on_line l z)
-  condition_short (Ok e) (Ok k) h = (h.0, (e, refl, h.1))
+  condition_short : (z : Result Expr (ℕ × ℕ)) (r : Result Condition ExpressionFault) → Answered l z r → ReadCondition r (on_line l z)
+  condition_short (Ok e) (Ok k) h = (e, refl, h)
   condition_short (Ok e) (Err f) h = absurd h
   condition_short (Err g) (Ok k) h = absurd h
   condition_short (Err g) (Err f) h = ap Err (sym h)
 
-  pub condition_read : (z : Result Expr (ℕ × ℕ)) (r : Result Condition ExpressionFault) → (255 < length line → r ≡ Err (LineTooLong l)) → (length line ≤ 255 → Answered line l z r) → ReadCondition r (read_in line l z)
+  pub condition_read : (z : Result Expr (ℕ × ℕ)) (r : Result Condition ExpressionFault) → (255 < length line → r ≡ Err (LineTooLong l)) → (length line ≤ 255 → Answered l z r) → ReadCondition r (read_in line l z)
   condition_read z r long short = by_length z (ReadCondition r) (λ h. subst (λ (x : Result Condition ExpressionFault). ReadCondition x (Err (described (LineTooLong l)))) (sym (long h)) refl) (λ h. condition_short z r (short h))
 
   abbrev ReadName : Result Part ExpressionFault → Result Bytes Refusal → Type 0

@@ -1,5 +1,5 @@
 // Reading the `switch` lines.
-ghost use Rattle.std.specs.Prelude.{◌≡◌, ℕ, ◌<◌, false};
+ghost use Rattle.std.specs.Prelude.{◌≡◌, ℕ, ◌<◌};
 ghost use Rattle.names.specs.Names.{texts};
 ghost use Rattle.expressions.specs.Conditions.{only_name};
 ghost use Rattle.expressions.specs.Placed.{read_in};
@@ -8,7 +8,7 @@ ghost use Rattle.rulelines.specs.Declarations.{NameOutcome, DeclarationsOutcome}
 
 use crate::fault::RuleFault;
 use crate::kind::{LineKind, kind_of};
-use expressions::line::only_name;
+use expressions::operand::Operand;
 use lines::first_line;
 use names::index_of;
 use std::alloc::{AllocError, AllocFailed, Global};
@@ -52,18 +52,15 @@ impl<T: Drop> From<AllocFailed<T>> for DeclarationFault {
     }
 }
 
-// The name behind offset `from` of a `switch` line, which may not be one of those before it.
-fn new_name<'a>(
-    line: &'a [u8],
-    from: usize,
-    number: usize,
-    names: &[&[u8]],
-) -> Result<&'a [u8], RuleFault>
-    ensures { NameOutcome (texts names.now) number (read_in line.now number (only_name false line.now from)) result }
+// The name of a `switch` line, which may not be one of those before it.
+fn new_name<'a>(operand: Operand<'a>, names: &[&[u8]]) -> Result<&'a [u8], RuleFault>
+    ensures { NameOutcome (texts names.now) operand.entry.number (read_in operand.entry.line.now operand.entry.number (only_name operand.entry.comments operand.entry.line.now operand.entry.from)) result }
 {
-    let name = only_name(line, from, false, number)?;
+    let name = operand.only_name()?;
     if index_of(names, name.text).is_some() {
-        return Err(RuleFault::DeclaredTwice { line: number });
+        return Err(RuleFault::DeclaredTwice {
+            line: operand.number,
+        });
     }
     Ok(name.text)
 }
@@ -84,7 +81,13 @@ pub fn read_switches<'a>(heap: Global, text: &'a [u8]) -> Result<Declarations<'a
         match kind_of(line) {
             LineKind::Blank => {}
             LineKind::Switch { behind: from } => {
-                let name = new_name(line, from, number, declared.names.as_slice())?;
+                let operand = Operand {
+                    line,
+                    from,
+                    comments: false,
+                    number,
+                };
+                let name = new_name(operand, declared.names.as_slice())?;
                 declared.names.push(name)?;
             }
             _ => break,

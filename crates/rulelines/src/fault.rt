@@ -38,7 +38,7 @@ impl From<RuleFault> for Refusal {
     fn from(fault: RuleFault) -> Refusal {
         let line = match fault {
             RuleFault::Store { fault, line } => return fault.refusal(line),
-            RuleFault::Expression(fault) => return fault.refusal(),
+            RuleFault::Expression(fault) => return fault.into(),
             RuleFault::Misplaced { line }
             | RuleFault::DeclaredTwice { line }
             | RuleFault::Undeclared { line } => line,

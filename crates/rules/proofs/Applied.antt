@@ -7,10 +7,10 @@ use Rattle.stores.specs.Steps.{fail, ask, then, blamed, Runs}
 use Rattle.stores.specs.Faults.{described as store}
 use Rattle.stores.specs.declared.fault.StoreFault.{StoreFault}
 use Rattle.stores.proofs.Runs.{ok_same, ok_not_err, runs_then, runs_refused, runs_blamed_ok, runs_blamed_err}
-use Rattle.text.specs.Tokens.{Bytes}
 use Rattle.expressions.specs.Grammar.{Expr}
 use Rattle.expressions.specs.Conditions.{condition_at}
 use Rattle.expressions.specs.Placed.{read_in}
+use Rattle.expressions.specs.declared.operand.Operand.{Operand}
 use Rattle.expressions.specs.Faults.{described as expression}
 use Rattle.expressions.specs.declared.fault.ExpressionFault.{ExpressionFault}
 use Rattle.evaluation.specs.Worked.{worked}
@@ -23,9 +23,12 @@ use Rattle.rules.specs.Ruled.{Answer, known, rule}
 use Rattle.rules.specs.Read.{names, lookup}
 use Rattle.rules.specs.Turns.{blamed_on, NextSteps, Goes}
 
-module _ {S : Type 0} (model : S → Model) (rollback : S → ℕ → S) (need : S → Op → ℕ) (rd : Evaluator Switches) (acc l : ℕ) (line : Bytes) (from : ℕ) where
+module _ {S : Type 0} (model : S → Model) (rollback : S → ℕ → S) (need : S → Op → ℕ) (rd : Evaluator Switches) (acc : ℕ) (o : Operand) where
+  abbrev l : ℕ
+  l = o.number
+
   abbrev z : Result Expr Refusal
-  z = read_in line l (condition_at false line from)
+  z = read_in o.line.now o.number (condition_at o.comments o.line.now o.from)
 
   abbrev Applied : S → S → Result ℕ RuleFault → Type 0
   Applied s s₁ r = Goes model rollback need (λ next. rule (names rd) (lookup rd) rd.known.none rd.known.top acc l next z) s s₁ r

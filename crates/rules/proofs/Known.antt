@@ -1,18 +1,18 @@
 -- Which names are declared.
-use Rattle.std.proofs.Common.{◌≡◌, Bool, true, false, ◌&&◌, List, [], ◌∷◌, ◌++◌, take, sym, refl, ap, ◌∙◌, ap₂}
+use Rattle.std.proofs.Common.{◌≡◌, Bool, true, false, ◌&&◌, List, [], ◌∷◌, ◌++◌, sym, refl, ap, ◌∙◌, ap₂}
 use Rattle.std.specs.List.{list_all}
+use Rattle.std.proofs.lemmas.List.Folds.{list_all-map}
 use Rattle.text.specs.Tokens.{Bytes}
 use Rattle.expressions.specs.Grammar.{Expr, never, always, named, neg, conj, disj}
-use Rattle.expressions.specs.Conditions.{Item, not-item, and_item, or-item, item_at, items, postfix}
+use Rattle.expressions.specs.Conditions.{Item, not-item, and_item, or-item, item, items, postfix}
 use Rattle.expressions.specs.declared.condition.Step.{Step}
 use Rattle.expressions.specs.declared.condition.Condition.{Condition}
 use Rattle.evaluation.specs.Worked.{steps_of}
 use Rattle.rules.specs.Ruled.{known}
 use Rattle.rules.specs.Turns.{known_item, all_known}
 
-known_all : (ns : List Bytes) (line : Bytes) (ss : List Step) → all_known ns (items line ss) ≡ list_all (λ x. known_item ns (item_at line x)) ss
-known_all ns line [] = refl
-known_all ns line (x ∷ ss) = ap (λ (t : Bool). known_item ns (item_at line x) && t) (known_all ns line ss)
+known_all : (ns : List Bytes) (ss : List Step) → all_known ns (items ss) ≡ list_all (λ x. known_item ns (item x)) ss
+known_all ns ss = list_all-map (known_item ns) item ss
 
 and_assoc : (x y z : Bool) → ((x && y) && z) ≡ (x && (y && z))
 and_assoc true y z = refl
@@ -37,11 +37,6 @@ known_postfix ns (conj e f) =
 known_postfix ns (disj e f) =
     known_append ns (postfix e) (postfix f ++ or-item ∷ []) ∙ ap₂ (λ (x y : Bool). x && y) (known_postfix ns e) (known_append ns (postfix f) (or-item ∷ []) ∙ and_true (all_known ns (postfix f)) ∙ known_postfix ns f)
 
--- a condition that was read from a line
-pub steps_read : (c : Condition) (line : Bytes) (e : Expr) → c.line.now ≡ line → items line (take c.len c.steps) ≡ postfix e → steps_of c ≡ postfix e
-steps_read c line e q r = ap (λ (l : Bytes). items l (take c.len c.steps)) q ∙ r
-
-pub known_read : (ns : List Bytes) (c : Condition) (line l : Bytes) (ss : List Step) (e : Expr) (b : Bool) → c.line.now ≡ line → items line (take c.len c.steps) ≡ postfix e
-    → l ≡ c.line.now → ss ≡ take c.len c.steps → b ≡ list_all (λ x. known_item ns (item_at l x)) ss → known ns e ≡ b
-known_read ns c line l ss e b q r p s h =
-    sym (h ∙ sym (known_all ns l ss) ∙ ap₂ (λ (x : Bytes) (y : List Step). all_known ns (items x y)) p s ∙ ap (all_known ns) (steps_read c line e q r) ∙ known_postfix ns e)
+-- a condition that was read
+pub known_read : (ns : List Bytes) (c : Condition) (ss : List Step) (e : Expr) (b : Bool) → steps_of c ≡ postfix e → ss ≡ c.steps.items → b ≡ list_all (λ x. known_item ns (item x)) ss → known ns e ≡ b
+known_read ns c ss e b r s h = sym (h ∙ sym (known_all ns ss) ∙ ap (λ (y : List Step). all_known ns (items y)) s ∙ ap (all_known ns) r ∙ known_postfix ns e)

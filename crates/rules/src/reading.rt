@@ -10,7 +10,7 @@ ghost use Rattle.lines.specs.Lines.{lines_of};
 ghost use Rattle.rulelines.specs.Faults.{described};
 ghost use Rattle.rulelines.specs.Kinds.{kind_of};
 ghost use Rattle.rules.specs.Read.{lined, answer_of};
-ghost use Rattle.expressions.specs.Conditions.{item_at, condition_at};
+ghost use Rattle.expressions.specs.Conditions.{item, condition_at};
 ghost use Rattle.expressions.specs.Placed.{read_in};
 ghost use Rattle.rules.specs.Ruled.{rule, by_kind, ruling, switching, ruled};
 ghost use Rattle.rules.specs.Allowed.{allowed_by};
@@ -20,9 +20,9 @@ ghost use Rattle.evaluation.specs.Meaning.{Denotes};
 use crate::entries::Switches;
 use arrayvec::ArrayVec;
 use evaluation::{Constants, Evaluator};
-use expressions::condition::{MAX_LINE, Step, name_at};
+use expressions::condition::{MAX_LINE, Step};
 use expressions::fault::ExpressionFault;
-use expressions::line::{nothing, only_name};
+use expressions::operand::Operand;
 use lines::first_line;
 use names::{all_distinct, index_of};
 use parser::condition;
@@ -54,43 +54,42 @@ fn on_line(answer: Result<u32, StoreFault>, line: usize) -> Result<u32, RuleFaul
 }
 
 // Is the step no name, or a declared one?
-fn is_declared(line: &[u8], step: Step, names: &[&[u8]]) -> bool
-    ensures { result ≡ known_item (texts names.now) (item_at line.now step) }
+fn is_declared(step: Step<'_>, names: &[&[u8]]) -> bool
+    ensures { result ≡ known_item (texts names.now) (item step.entry) }
 {
     match step {
-        Step::Defined { at, len } => index_of(names, name_at(line, at, len)).is_some(),
+        Step::Defined(name) => index_of(names, name).is_some(),
         _ => true,
     }
 }
 
 // Is every name among the steps declared?
-fn all_declared(line: &[u8], steps: &[Step], names: &[&[u8]]) -> bool
-    ensures { result ≡ list_all (λ step. known_item (texts names.now) (item_at line.now step)) steps.now }
+fn all_declared(steps: &[Step<'_>], names: &[&[u8]]) -> bool
+    ensures { result ≡ list_all (λ step. known_item (texts names.now) (item step)) steps.now }
 {
-    steps.iter().all(|step| is_declared(line, *step, names))
+    steps.iter().all(|step| is_declared(*step, names))
 }
 
 // What every line is read with: the declared switches, and the numbers that stand for none and all of the allowed configurations.
 type Reading<'a> = Evaluator<Switches<'a>>;
 
-// Takes from what is allowed so far, `acc`, what the rule behind offset `from` of the line does not allow.
+// Takes from what is allowed so far, `acc`, what the rule that stands there does not allow.
 fn apply_rule<S: Store>(
     reading: Reading<'_>,
-    line: &[u8],
-    from: usize,
-    number: usize,
+    operand: Operand<'_>,
     acc: u32,
     store: &mut S,
 ) -> Result<u32, RuleFault>
     ensures advanced { Advanced S.model S.rollback store.old store.new }
-    ensures goes { Goes S.model S.rollback S.need (λ next. rule (names_of reading.entry) (lookup_of reading.entry) reading.entry.known.none reading.entry.known.top acc number next (read_in line.now number (condition_at false line.now from))) store.old store.new result }
+    ensures goes { let o = operand.entry in Goes S.model S.rollback S.need (λ next. rule (names_of reading.entry) (lookup_of reading.entry) reading.entry.known.none reading.entry.known.top acc o.number next (read_in o.line.now o.number (condition_at o.comments o.line.now o.from))) store.old store.new result }
 {
-    let rule = condition(line, from, false, number)?;
-    if !all_declared(rule.line(), rule.steps(), reading.entries.names) {
-        return Err(RuleFault::Undeclared { line: number });
+    let line = operand.number;
+    let rule = condition(operand)?;
+    if !all_declared(rule.steps(), reading.entries.names) {
+        return Err(RuleFault::Undeclared { line });
     }
-    let set = on_line(reading.work_out(&rule, store), number)?;
-    on_line(store.both(acc, set), number)
+    let set = on_line(reading.work_out(&rule, store), line)?;
+    on_line(store.both(acc, set), line)
 }
 
 // A line of no known kind: its length is looked at first.
@@ -114,18 +113,24 @@ fn read_line<S: Store>(
     ensures advanced { Advanced S.model S.rollback store.old store.new }
     ensures turned { (behind : List ℕ) → Turned S.model S.rollback S.need (by_kind (kind_of line.now) (names_of reading.entry) (lookup_of reading.entry) reading.entry.known.none reading.entry.known.top acc number (lined line.now behind)) acc behind store.old store.new result }
 {
+    let whole = Operand {
+        line,
+        from: 0,
+        comments: false,
+        number,
+    };
     match kind_of(line) {
         LineKind::Blank => Ok(Some(acc)),
-        LineKind::Rule { behind } => {
-            let set = apply_rule(reading, line, behind, number, acc, store)?;
+        LineKind::Rule { behind: from } => {
+            let set = apply_rule(reading, Operand { from, ..whole }, acc, store)?;
             Ok(Some(set))
         }
-        LineKind::Begin { behind } => {
-            nothing(line, behind, false, number)?;
+        LineKind::Begin { behind: from } => {
+            Operand { from, ..whole }.nothing()?;
             Ok(None)
         }
-        LineKind::Switch { behind } => {
-            only_name(line, behind, false, number)?;
+        LineKind::Switch { behind: from } => {
+            Operand { from, ..whole }.only_name()?;
             Err(RuleFault::Misplaced { line: number })
         }
         LineKind::Foreign => Err(foreign(line, number)),
