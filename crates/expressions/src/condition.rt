@@ -7,7 +7,7 @@ use arrayvec::ArrayVec;
 pub const MAX_LINE: usize = 255;
 
 // Operands stand before their operation, left to right. A name is a part of the line that it was read from.
-#[derive(Clone, Copy, PartialEq, Eq, Debug, Default)]
+#[derive(Clone, Copy, Debug, Default)]
 pub enum Step<'a> {
     #[default]
     Never,

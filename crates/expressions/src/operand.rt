@@ -10,7 +10,7 @@ use crate::fault::{ExpressionFault, TokenFault};
 use text::{Part, Token, Tokens};
 
 // What stands in a line from offset `from` on, where comments may be known. The line comes without its line feed; faults name it by its number.
-#[derive(Clone, Copy, PartialEq, Eq, Debug)]
+#[derive(Clone, Copy)]
 pub struct Operand<'a> {
     pub line: &'a [u8],
     pub from: usize,

@@ -8,14 +8,14 @@ ghost use Rattle.text.specs.Reading.{Reads};
 use crate::{Class, class_of};
 
 // Some bytes of a line, and the place of the first, counted from 1.
-#[derive(Clone, Copy, PartialEq, Eq, Debug)]
+#[derive(Clone, Copy)]
 pub struct Part<'a> {
     pub text: &'a [u8],
     pub at: usize,
 }
 
 // A token with its part of the line; `End` has the empty part one past the line.
-#[derive(Clone, Copy, PartialEq, Eq, Debug)]
+#[derive(Clone, Copy)]
 pub enum Token<'a> {
     Zero(Part<'a>),
     One(Part<'a>),
