@@ -2,7 +2,6 @@
 use Rattle.std.proofs.Common.{◌≡◌, ℕ, ◌<◌, ◌≤◌, Bool, true, false, cond, ltb, length, Ok, Err, Result, sym, refl, subst, ⊎_elim, ltb-false, ltb-true}
 use Rattle.std.proofs.lemmas.Bool.{cases_Bool}
 use Rattle.text.specs.Tokens.{Bytes}
-use Rattle.text.specs.declared.scanner.Part.{Part}
 use Rattle.expressions.specs.Grammar.{Expr}
 use Rattle.expressions.specs.Conditions.{postfix}
 use Rattle.expressions.specs.Faults.{described}

@@ -1,5 +1,5 @@
 -- The output of the lines that are left, and how a line that was read adds to it.
-use Rattle.std.proofs.Common.{◌≡◌, ℕ, suc, Bool, List, [], ◌∷◌, ◌++◌, Ok, Err, Result, sym, refl, ap, ◌∙◌, append_assoc}
+use Rattle.std.proofs.Common.{◌≡◌, ℕ, suc, Bool, List, [], ◌∷◌, ◌++◌, Ok, Err, Result, sym, refl, ap, ◌∙◌, append_assoc, append-nil}
 use Rattle.faults.specs.declared.Refusal.{Refusal}
 use Rattle.text.specs.Tokens.{Bytes}
 use Rattle.scanning.specs.Modes.{open_after}
@@ -46,13 +46,9 @@ pub line_refused : (t : Answer) (bs : Bytes) (p : Placed) (ps : List Placed) (s 
     → read_one p s ≡ Err f → Left t bs (rendered (p ∷ ps) s σ) → t ≡ Err f
 line_refused t bs p ps s σ f e h = h ∙ ap (λ (r : Result (Line × Shape) Refusal). changed (λ more. bs ++ more) (from ps σ r)) e
 
-pub append_nothing : (a : Bytes) → a ++ [] ≡ a
-append_nothing [] = refl
-append_nothing (x ∷ a) = ap (λ (z : Bytes). x ∷ z) (append_nothing a)
-
 -- no line is left
 pub all_read : (t : Answer) (bs : Bytes) (s : Shape) (σ : State) → Left t bs (rendered [] s σ) → t ≡ Ok bs
-all_read t bs s σ h = h ∙ ap (λ (z : Bytes). Ok z) (append_nothing bs)
+all_read t bs s σ h = h ∙ ap (λ (z : Bytes). Ok z) (append-nil bs)
 
 -- the lines at their places are read as the definition reads them
 pub read_at_places : (c : Bool) (n : ℕ) (ls : List Bytes) (s : Shape) → read_placed s (placed c n ls) ≡ read_lines c n s ls

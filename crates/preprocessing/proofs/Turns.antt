@@ -1,5 +1,5 @@
 -- A turn of the loop over the lines.
-use Rattle.std.proofs.Common.{◌≡◌, ℕ, suc, ◌≤◌, Bool, true, false, cond, List, [], ◌∷◌, ◌++◌, length, vec_items, Ok, Err, Result, sym, refl, ap, ◌∙◌, subst, arith, Bor}
+use Rattle.std.proofs.Common.{◌≡◌, ℕ, suc, ◌≤◌, Bool, true, false, cond, List, [], ◌∷◌, ◌++◌, length, vec_items, Ok, Err, Result, sym, refl, ap, ◌∙◌, subst, append-nil, arith, Bor}
 use Rattle.names.specs.Names.{texts}
 use Rattle.faults.specs.declared.Refusal.{Refusal}
 use Rattle.text.specs.Tokens.{Bytes}
@@ -21,7 +21,7 @@ use Rattle.preprocessor.proofs.Standing.{represents_more}
 use Rattle.preprocessing.specs.Lines.{Answer, rendered, Left, Going}
 use Rattle.preprocessing.specs.declared.Run.{Run}
 use Rattle.preprocessing.proofs.Growing.{no_ok, accepted, same_ok, Entered, none_more, one_more, entered_few, after_line, defined_there, room_for_if}
-use Rattle.preprocessing.proofs.Rendered.{append_nothing, line_read, line_refused, all_read}
+use Rattle.preprocessing.proofs.Rendered.{line_read, line_refused, all_read}
 
 -- what an accepted line came from
 ends_ok : (last : Bool) (n : ℕ) (r : Result Shape Refusal) (s : Shape) → ends last n r ≡ Ok s → r ≡ Ok s
@@ -61,7 +61,7 @@ entered ns ns' q σ none_more h = h
 entered ns ns' q σ (one_more x f l) h = represents_more ns x q σ h
 
 joined_kept : (b : Bool) (l : Bytes) → joined (cond b (l ∷ []) []) ≡ cond b l []
-joined_kept true l = append_nothing l
+joined_kept true l = append-nil l
 joined_kept false l = refl
 
 module _ (p : SourceLine) (r r' : Run) (y : codes.Line) (t : Answer) (ps : List Placed) where
@@ -109,4 +109,4 @@ written a bs l false e h = let z : ◌≡◌ {A = ℕ} 0 1 = cc in absurd (omega
 
 pub unwritten : (a bs l : Bytes) (b : Bool) → b ≡ false → a ≡ bs → a ≡ bs ++ cond b l []
 unwritten a bs l true e h = let z : ◌≡◌ {A = ℕ} 0 1 = cc in absurd (omega arith)
-unwritten a bs l false e h = h ∙ sym (append_nothing bs)
+unwritten a bs l false e h = h ∙ sym (append-nil bs)

@@ -5,6 +5,9 @@ use native.Mathlib.Nat.{div-eq_of_lt}
 use Rattle.std.specs.Cmp.Lexicographic.{nat_list_eq_equiv}
 use Rattle.std.specs.List.{IsDistinct, AllByRecursion, list_any}
 use Rattle.std.specs.Str.{bytes_eq}
+use Rattle.std.proofs.Math.Bool.{or-false}
+use Rattle.std.proofs.lemmas.List.Folds.{list_any-append}
+use Rattle.std.proofs.lemmas.Map.Views.{any-filter_same}
 use Rattle.std.proofs.lemmas.Bool.{cases_lt, false≢true}
 use Rattle.std.proofs.lemmas.Slice.Eq.{bytes_eq-Decides}
 use Rattle.std.proofs.lemmas.Map.Keys.{IsDistinct-push}
@@ -38,50 +41,22 @@ any_from (d ∷ ds) y j = by (bytes_eq d y) (bytes_eq y d) (turned d y) (any_fro
 env_any : (ds : List Bytes) (y : Bytes) → env_of ds y ≡ list_any (bytes_eq y) ds
 env_any ds y = any_from ds y 0
 
-or_false : (b : Bool) → (b || false) ≡ b
-or_false true = refl
-or_false false = refl
-
 pub texts_length : (rs : List (Bor Bytes)) → length (texts rs) ≡ length rs
 texts_length [] = refl
 texts_length (r ∷ rs) = ap suc (texts_length rs)
 
 -- one name more
 env_push : (ds : List Bytes) (x y : Bytes) → env_of (ds ++ x ∷ []) y ≡ (env_of ds y || bytes_eq y x)
-env_push ds x y = env_any (ds ++ x ∷ []) y ∙ push ds ∙ ap (λ (b : Bool). b || bytes_eq y x) (sym (env_any ds y))
-  where
-    in_front : (a : Bool) (es : List Bytes) → list_any (bytes_eq y) (es ++ x ∷ []) ≡ (list_any (bytes_eq y) es || bytes_eq y x)
-        → (a || list_any (bytes_eq y) (es ++ x ∷ [])) ≡ ((a || list_any (bytes_eq y) es) || bytes_eq y x)
-    in_front true es h = refl
-    in_front false es h = h
-
-    push : (es : List Bytes) → list_any (bytes_eq y) (es ++ x ∷ []) ≡ (list_any (bytes_eq y) es || bytes_eq y x)
-    push [] = or_false (bytes_eq y x)
-    push (e ∷ es) = in_front (bytes_eq y e) es (push es)
+env_push ds x y =
+    env_any (ds ++ x ∷ []) y ∙ list_any-append (bytes_eq y) ds (x ∷ [])
+    ∙ ap₂ (λ (a b : Bool). a || b) (sym (env_any ds y)) (or-false (bytes_eq y x))
 
 -- one name taken out
 env_filter : (ds : List Bytes) (x y : Bytes) → env_of (filter (λ d. not (bytes_eq d x)) ds) y ≡ (not (bytes_eq x y) && env_of ds y)
-env_filter ds x y = env_any (filter (λ d. not (bytes_eq d x)) ds) y ∙ out ds ∙ ap (λ (b : Bool). not (bytes_eq x y) && b) (sym (env_any ds y))
-  where
-    none : (b : Bool) → false ≡ (b && false)
-    none true = refl
-    none false = refl
-
-    by : (e : Bytes) (es : List Bytes) (a b c : Bool) → bytes_eq e x ≡ a → bytes_eq y e ≡ b → bytes_eq x y ≡ c
-        → list_any (bytes_eq y) (filter (λ d. not (bytes_eq d x)) es) ≡ (not c && list_any (bytes_eq y) es)
-        → list_any (bytes_eq y) (cond (not a) (e ∷ filter (λ d. not (bytes_eq d x)) es) (filter (λ d. not (bytes_eq d x)) es)) ≡ (not c && (b || list_any (bytes_eq y) es))
-    by e es true true true p q r h = h
-    by e es true true false p q r h = absurd (false≢true (sym r ∙ turned x y ∙ ap (bytes_eq y) (sym (same e x p)) ∙ q))
-    by e es true false true p q r h = h
-    by e es true false false p q r h = h
-    by e es false true true p q r h = absurd (false≢true (sym p ∙ turned e x ∙ ap (bytes_eq x) (sym (same y e q)) ∙ r))
-    by e es false true false p q r h = ap (λ (z : Bool). z || list_any (bytes_eq y) (filter (λ d. not (bytes_eq d x)) es)) q
-    by e es false false true p q r h = ap (λ (z : Bool). z || list_any (bytes_eq y) (filter (λ d. not (bytes_eq d x)) es)) q ∙ h
-    by e es false false false p q r h = ap (λ (z : Bool). z || list_any (bytes_eq y) (filter (λ d. not (bytes_eq d x)) es)) q ∙ h
-
-    out : (es : List Bytes) → list_any (bytes_eq y) (filter (λ d. not (bytes_eq d x)) es) ≡ (not (bytes_eq x y) && list_any (bytes_eq y) es)
-    out [] = none (not (bytes_eq x y))
-    out (e ∷ es) = by e es (bytes_eq e x) (bytes_eq y e) (bytes_eq x y) refl refl refl (out es)
+env_filter ds x y =
+    env_any (filter (λ d. not (bytes_eq d x)) ds) y
+    ∙ any-filter_same (bytes_eq y) (λ d. not (bytes_eq d x)) (not (bytes_eq x y)) (λ k e. ap not (turned k x ∙ ap (bytes_eq x) (sym (same y k e)))) ds
+    ∙ ap (λ (b : Bool). not (bytes_eq x y) && b) (sym (env_any ds y))
 
 module _ (ds : List Bytes) (x : Bytes) where
   -- what is defined behind the line
@@ -93,7 +68,7 @@ module _ (ds : List Bytes) (x : Bytes) where
       by true true p q = sym p ∙ ap (env_of ds) (same x y q)
       by true false p q = e
       by false true p q = sym (env_push ds x y ∙ ap₂ (λ (u v : Bool). u || v) (ap (env_of ds) (sym (same x y q)) ∙ p) (turned y x ∙ q))
-      by false false p q = e ∙ sym (env_push ds x y ∙ ap (λ (v : Bool). env_of ds y || v) (turned y x ∙ q) ∙ or_false (env_of ds y))
+      by false false p q = e ∙ sym (env_push ds x y ∙ ap (λ (v : Bool). env_of ds y || v) (turned y x ∙ q) ∙ or-false (env_of ds y))
 
   pub undefines : (a : Bool) (y : Bytes) (b : Bool) → b ≡ env_of ds y → cond (a && bytes_eq x y) false b ≡ env_of (without_name a x ds) y
   undefines false y b e = e
@@ -264,7 +239,7 @@ module _ (xs : List (Bor Bytes)) (k : ℕ) where
       where
         by : (y : Bytes) (n t : Bool) → is_some (index_of ns y) ≡ n → bytes_eq x y ≡ t → (env_of ds y || bytes_eq y x) ≡ cond n (defined_in ns k y) (cond t (on i k) false)
         by y true true p q = absurd (false≢true (sym f ∙ ap (λ (z : Bytes). is_some (index_of ns z)) (same x y q) ∙ p))
-        by y true false p q = ap₂ (λ (u v : Bool). u || v) (b.names y) (turned y x ∙ q) ∙ or_false (defined_in ns k y)
+        by y true false p q = ap₂ (λ (u v : Bool). u || v) (b.names y) (turned y x ∙ q) ∙ or-false (defined_in ns k y)
         by y false true p q = ap₂ (λ (u v : Bool). u || v) (unlisted y p) (turned y x ∙ q) ∙ sym o
         by y false false p q = ap₂ (λ (u v : Bool). u || v) (unlisted y p) (turned y x ∙ q)
 

@@ -1,4 +1,4 @@
-use Rattle.std.proofs.Common.{ℕ, ◌^◌, ◌<◌, ◌≤◌, length, false, Err, sym, ap, ◌∙◌, subst, arith}
+use Rattle.std.proofs.Common.{false, Err, sym, ap, ◌∙◌, subst, arith}
 use Rattle.std.proofs.lemmas.Result.{err_from_is_err_and}
 use Rattle.names.specs.Names.{texts}
 use Rattle.sources.specs.Lines.{lines}
