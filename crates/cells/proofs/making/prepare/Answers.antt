@@ -1,11 +1,8 @@
-use Rattle.std.proofs.Common.{ℕ, List, set, refl, ap, ◌∙◌, ap₂, arith}
+use Rattle.std.proofs.Common.{ℕ, List, set, ap, ◌∙◌, ap₂, arith}
 use Rattle.cells.specs.Cells.{Cell}
 use Rattle.cells.specs.Words.{written}
-use Rattle.cells.proofs.Begun.{new_store, due_many, due_none}
+use Rattle.cells.proofs.Begun.{new_store, due_none}
 use Rattle.cells.proofs.making.prepare.Goals as goal
-
-pub returns-then-n-gt-MAX_SWITCHES : goal.returns-then-n-gt-MAX_SWITCHES
-returns-then-n-gt-MAX_SWITCHES c = (due_many c.args.words.now c.args.n (omega arith), refl)
 
 pub returns : goal.returns
 returns c = (

@@ -1,10 +1,7 @@
 use Rattle.std.proofs.Common.{ℕ, ◌-◌, ◌<◌, List, sym, subst, arith}
 use Rattle.cells.specs.Words.{count, Cut}
-use Rattle.cells.proofs.Popped.{Less, popped_places, cut_none, cut_more}
+use Rattle.cells.proofs.Popped.{Less, popped_places, cut_more}
 use Rattle.cells.proofs.pool.cut_cells.Goals as goal
-
-pub loop-words-init : goal.loop-words-init
-loop-words-init c = (cut_none c.args.words.now c.requires.0, c.requires.1.1)
 
 pub loop-words-preserved : goal.loop-words-preserved
 loop-words-preserved c =

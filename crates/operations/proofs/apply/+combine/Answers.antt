@@ -3,7 +3,7 @@ use Rattle.std.proofs.lemmas.Result.{err_from_is_err_and}
 use Rattle.cells.specs.Words.{count, cells_of, WellFormed, Stepped, op_of, Correct, Remembers, remembered}
 use Rattle.cells.proofs.Memory.{remembers_kept, stepped_right, remembered_right, stepped_remembered}
 use Rattle.operations.specs.Ops.{meaning}
-use Rattle.operations.proofs.Shortcuts.{Known, known_right, known_none}
+use Rattle.operations.proofs.Shortcuts.{Known, known_right}
 use Rattle.operations.specs.Taken.{Parted}
 use Rattle.operations.specs.declared.apply.Parts.{Parts}
 use Rattle.cells.proofs.Steps.{Apart, lows_there, highs_there, full_low, full_high, sides_there, outcome, stepped_there}
@@ -36,16 +36,6 @@ returns-in-Some t c =
           (λ j h. k.is (cells_of c.args.words.now) j);
       remembers = c.requires.remembers;
     }
-
-pub recall-requires : goal.recall-requires
-recall-requires t c =
-    let z = known_none c.args.op c.args.a c.args.b (sym c.known.ensures ∙ c.in_default.is) in
-    record { remembers = c.requires.remembers; a = (c.requires.a, z.0); b = c.requires.b }
-
-pub take_apart-p-requires : goal.take_apart-p-requires
-take_apart-p-requires t c =
-    let z = known_none c.args.op c.args.a c.args.b (sym c.known.ensures ∙ c.in_default.is) in
-    (c.requires.a, (c.requires.b, z.1))
 
 pub returns-in-Some-recall : goal.returns-in-Some-recall
 returns-in-Some-recall t c =

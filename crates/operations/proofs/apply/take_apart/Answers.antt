@@ -36,18 +36,6 @@ overflow_sub-switch c =
     (omega (arith, c.max-switch.ensures, c.level_of.ensures.is, c.level_of-2.ensures.is)) in
     t.0
 
-pub sides_at-requires : goal.sides_at-requires
-sides_at-requires c =
-    let t = top c.args.cells.now.words.now c.args.a c.args.b c.max-switch.result c.args.cells.now.formed c.requires.0 c.requires.1.0 c.requires.1.1
-    (omega (arith, c.max-switch.ensures, c.level_of.ensures.is, c.level_of-2.ensures.is)) in
-    (c.requires.0, t.1)
-
-pub sides_at-requires-2 : goal.sides_at-requires-2
-sides_at-requires-2 c =
-    let t = top c.args.cells.now.words.now c.args.a c.args.b c.max-switch.result c.args.cells.now.formed c.requires.0 c.requires.1.0 c.requires.1.1
-    (omega (arith, c.max-switch.ensures, c.level_of.ensures.is, c.level_of-2.ensures.is)) in
-    (c.requires.1.0, t.1)
-
 pub returns : goal.returns
 returns c =
     let ws : List ℕ = c.args.cells.now.words.now in
