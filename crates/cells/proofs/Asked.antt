@@ -31,14 +31,14 @@ pub record Seen (ws : List ℕ) (c : ℕ) (x : Cell) : Type 0 where
   pub means_low : (k : ℕ) → k < 2 ^ x.0 → mean (cells_of ws) c k ≡ mean (cells_of ws) x.1 k
   pub means_high : (k : ℕ) → k < 2 ^ x.0 → mean (cells_of ws) c (2 ^ x.0 + k) ≡ mean (cells_of ws) x.2 k
 
-pub seen : (ws : List ℕ) → WellFormed ws → (c : ℕ) → 2 ≤ c → c < count ws → Seen ws c (cell_at ws c)
-seen ws s c h hc =
+pub seen : (ws : List ℕ) → WellFormed ws → (c : ℕ) (y : Cell) → y ≡ cell_at ws c → 2 ≤ c → c < count ws → Seen ws c y
+seen ws s c y e h hc =
     let n : ℕ = switches ws in
     let cs : List Cell = cells_of ws in
     let len = length_cells ws in
     let hl : c < length cs = omega arith in
     let o : Ordered n cs c = s.reduced.ordered c h hl in
-    subst (Seen ws c) (at_cells ws c hc)
+    subst (Seen ws c) (at_cells ws c hc ∙ sym e)
     (record {
       switch = omega (arith, o.switch, s.reduced.admitted);
       low_there = omega (arith, o.low);
@@ -78,11 +78,11 @@ seek_from ws s c z hc =
       from = λ j h. let e : 0 + j ≡ j = omega arith in ap (mean (cells_of ws) c) e;
     }
 
-pub seek_low : (ws : List ℕ) → WellFormed ws → (c a k : ℕ) → Descending ws c a k → 2 ≤ a → (cell_at ws a).1 ≢ 0 → Descending ws c (cell_at ws a).1 k
-seek_low ws s c a k x two z =
-    let v = seen ws s a two x.there in
-    let i : ℕ = (cell_at ws a).0 in
-    let p : 2 ^ level (cells_of ws) (cell_at ws a).1 ≤ 2 ^ i = pow_mono v.low_level in
+pub seek_low : (ws : List ℕ) → WellFormed ws → (c a k : ℕ) (y : Cell) → y ≡ cell_at ws a → Descending ws c a k → 2 ≤ a → y.1 ≢ 0 → Descending ws c y.1 k
+seek_low ws s c a k y e x two z =
+    let v = seen ws s a y e two x.there in
+    let i : ℕ = y.0 in
+    let p : 2 ^ level (cells_of ws) y.1 ≤ 2 ^ i = pow_mono v.low_level in
     let q : 2 ^ level (cells_of ws) a ≡ 2 ^ i * 2 = ap (λ (y : ℕ). 2 ^ y) v.level_is ∙ pow-suc 2 i in
     record {
       there = v.low_there;
@@ -92,12 +92,12 @@ seek_low ws s c a k x two z =
       from = λ j h. x.from j (omega arith) ∙ v.means_low j (omega arith);
     }
 
-pub seek_high : (ws : List ℕ) → WellFormed ws → (c a k : ℕ) → Descending ws c a k → 2 ≤ a → (cell_at ws a).1 ≡ 0
-    → Descending ws c (cell_at ws a).2 (k + 2 ^ (cell_at ws a).0)
-seek_high ws s c a k x two z =
-    let v = seen ws s a two x.there in
-    let i : ℕ = (cell_at ws a).0 in
-    let p : 2 ^ level (cells_of ws) (cell_at ws a).2 ≤ 2 ^ i = pow_mono v.high_level in
+pub seek_high : (ws : List ℕ) → WellFormed ws → (c a k : ℕ) (y : Cell) → y ≡ cell_at ws a → Descending ws c a k → 2 ≤ a → y.1 ≡ 0
+    → Descending ws c y.2 (k + 2 ^ y.0)
+seek_high ws s c a k y e x two z =
+    let v = seen ws s a y e two x.there in
+    let i : ℕ = y.0 in
+    let p : 2 ^ level (cells_of ws) y.2 ≤ 2 ^ i = pow_mono v.high_level in
     let q : 2 ^ level (cells_of ws) a ≡ 2 ^ i * 2 = ap (λ (y : ℕ). 2 ^ y) v.level_is ∙ pow-suc 2 i in
     record {
       there = v.high_there;

@@ -1,12 +1,12 @@
 -- The reduced diagram that is built means its set, and only the configurations below 2^i count.
-use Rattle.std.proofs.Common.{◌≡◌, ℕ, zero, suc, ◌+◌, ◌-◌, ◌*◌, ◌^◌, ◌<◌, ◌≤◌, Bool, true, false, cond, eqb, ◌≢◌, List, [], ◌∷◌, ◌++◌, length, sym, refl, ap, ◌∙◌, subst, ap₂, ⊎_elim, pow-suc, arith}
+use Rattle.std.proofs.Common.{◌≡◌, ℕ, zero, suc, ◌+◌, ◌-◌, ◌*◌, ◌^◌, ◌<◌, ◌≤◌, Bool, true, false, cond, eqb, ◌≢◌, List, [], ◌∷◌, ◌++◌, length, Some, None, Option, sym, refl, ap, ◌∙◌, subst, ap₂, ⊎_elim, pow-suc, arith}
 use Rattle.std.proofs.lemmas.Nat.{pow_pos}
 use Rattle.std.proofs.lemmas.List.{length_push}
 use Rattle.std.proofs.lemmas.Bool.{eq-eqb, ne_eqb, cases_lt, cases_eq, cond-true, cond-false}
 use Rattle.cells.specs.Cells.{Cell, at, on, walk, mean, level, Reduced, seek, placed, node, build, Grows, Made, Sides}
 use Rattle.cells.proofs.Bit.{on_low, on_high}
 use Rattle.cells.proofs.Mean.{mean_cell, level_cell, walk_above}
-use Rattle.cells.proofs.Held.{seek_there, seek_none, placed_held, node_one, held}
+use Rattle.cells.proofs.Held.{found_or_none, seek_there, seek_none, placed_held, node_one, held}
 use Rattle.cells.proofs.Grow.{grows_refl, grows_trans, grows_push, at_push, walk_kept, level_kept, push_reduced}
 
 -- what `node` leaves: the set that has h where bit i is 1, and else l
@@ -73,7 +73,7 @@ new_side n cs x w s ne fresh =
           (walk_kept n cs ds w g x.2 x.2 k s.high) (walk_kept n cs ds w g x.1 x.1 k s.low);
     }
 
-pub placed_none : (cs : List Cell) (x : Cell) → placed cs x 0 ≡ (cs ++ x ∷ [], length cs)
+pub placed_none : (cs : List Cell) (x : Cell) → placed cs x None ≡ (cs ++ x ∷ [], length cs)
 unfolding placed
 placed_none cs x = refl
 
@@ -87,22 +87,23 @@ pub node_made : (n : ℕ) (cs : List Cell) (x : Cell) → Reduced n cs → Sides
 unfolding node
 node_made n cs x w s =
     let P : List Cell × ℕ → Type 0 = Made n cs (suc x.0) (Joined cs x) in
-    let m : ℕ = seek cs x (length cs) in
+    let o : Option ℕ = seek cs x (length cs) in
     ⊎_elim
     (λ (e : x.1 ≡ x.2). subst P (sym (cond-true _ _ _ (eq-eqb x.1 x.2 e))) (one_side n cs x w s e))
     (λ (ne : x.1 ≢ x.2).
-    let f : cond (eqb x.1 x.2) (cs, x.1) (placed cs x m) ≡ placed cs x m = cond-false _ _ _ (ne_eqb x.1 x.2 ne) in
+    let f : cond (eqb x.1 x.2) (cs, x.1) (placed cs x o) ≡ placed cs x o = cond-false _ _ _ (ne_eqb x.1 x.2 ne) in
     subst P (sym f)
     (⊎_elim
-    (λ (z : m ≡ 0).
+    (λ (z : o ≡ None).
     subst P (sym (ap (placed cs x) z ∙ placed_none cs x))
-    (new_side n cs x w s ne (seek_none cs x (length cs) (not_end n cs x w s.switch 0 (omega arith)) z)))
-    (λ (z : m ≢ 0).
-    let t = seek_there cs x (length cs) z in
+    (new_side n cs x w s ne (seek_none cs x (length cs) z)))
+    (λ (z : (m : ℕ) × (o ≡ Some m)).
+    let m : ℕ = z.0 in
+    let t = seek_there cs x (length cs) m z.1 in
     let two : 2 ≤ m =
     ⊎_elim (λ (l : m < 2). absurd (not_end n cs x w s.switch m l t.1)) (λ (l : 2 ≤ m). l) (cases_lt m 2) in
-    subst P (sym (placed_held cs x m (omega arith))) (there_side n cs x w s m two t.0 t.1))
-    (cases_eq m 0)))
+    subst P (sym (ap (placed cs x) z.1 ∙ placed_held cs x m)) (there_side n cs x w s m two t.0 t.1))
+    (found_or_none o)))
     (cases_eq x.1 x.2)
 
 build_zero : (n : ℕ) (cs : List Cell) → Reduced n cs → (b : Bool) → (f : ℕ → Bool) → f 0 ≡ b → Made n cs 0 f (cs, cond b 1 0)

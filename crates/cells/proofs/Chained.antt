@@ -1,12 +1,12 @@
 -- The cells that lie in words, and the search along a chain.
-use Rattle.std.proofs.Common.{◌≡◌, ℕ, zero, suc, ◌+◌, ◌<◌, ◌≤◌, max, Bool, true, false, ◌&&◌, eqb, ltb, ◌≢◌, List, length, get_or, sym, refl, ap, ◌∙◌, subst, ⊎_elim, arith}
+use Rattle.std.proofs.Common.{◌≡◌, ℕ, zero, suc, ◌+◌, ◌<◌, ◌≤◌, max, Bool, true, false, ◌&&◌, eqb, ltb, ◌≢◌, List, length, get_or, Some, None, sym, refl, ap, ◌∙◌, subst, ⊎_elim, arith}
 use Rattle.std.proofs.lemmas.Nat.{mod_below}
 use Rattle.std.proofs.lemmas.List.FromFn.{length-map-range_with_len, get_or-map-range_with_len}
 use Rattle.std.proofs.lemmas.List.{same_lists, get_or_default}
 use Rattle.std.proofs.lemmas.Bool.{eq-eqb, eqb-true, ltb-true, lt-ltb, and_parts, and_from, cases_Bool, cases_lt, cases_eq, cond-true, cond-false}
 use Rattle.cells.specs.Cells.{Cell, at, Reduced, same, seek}
 use Rattle.cells.specs.Words.{switches, count, cell_at, next_at, cells_of, chain_of, latest, Lies, WellFormed, Searching}
-use Rattle.cells.proofs.Held.{same_is, is_same, seek_there}
+use Rattle.cells.proofs.Held.{same_is, is_same, found_or_none, seek_there}
 use Rattle.cells.proofs.Build.{not_end}
 
 pub length_cells : (ws : List ℕ) → length (cells_of ws) ≡ count ws
@@ -53,7 +53,7 @@ latest_below cs h m z =
 pub seek_latest : (n : ℕ) (cs : List Cell) (x : Cell) → Reduced n cs → x.0 < n → (m : ℕ)
     → seek cs x m ≡ seek cs x (suc (latest cs (chain_of x) m))
 unfolding seek latest
-seek_latest n cs x w hs zero = sym (cond-false _ 0 0 (no_end 0 (omega arith)))
+seek_latest n cs x w hs zero = sym (cond-false _ (Some 0) None (no_end 0 (omega arith)))
   where
     no_end : (c : ℕ) → c < 2 → same (at cs c) x ≡ false
     no_end c h =
@@ -79,7 +79,7 @@ seek_latest n cs x w hs (suc m) =
     (cases_lt m 2))
     (λ (s : same (at cs m) x ≡ false). s)
     (cases_Bool (same (at cs m) x)) in
-    cond-false _ m (seek cs x m) other ∙ ih ∙ ap (λ (c : ℕ). seek cs x (suc c)) (sym (cond-false t m (latest cs h m) e)))
+    cond-false _ (Some m) (seek cs x m) other ∙ ih ∙ ap (λ (c : ℕ). seek cs x (suc c)) (sym (cond-false t m (latest cs h m) e)))
     (cases_Bool t)
 
 -- the search begins at the head of its chain
@@ -96,13 +96,13 @@ going_next n cs x w hs c g ne hc =
     ⊎_elim (λ (e : same (at cs c) x ≡ true). absurd (ne (same_is (at cs c) x e)))
     (λ (e : same (at cs c) x ≡ false). e) (cases_Bool (same (at cs c) x)) in
     record {
-      left = g.left ∙ cond-false _ c (seek cs x c) no ∙ seek_latest n cs x w hs c;
+      left = g.left ∙ cond-false _ (Some c) (seek cs x c) no ∙ seek_latest n cs x w hs c;
       within = λ z. let t = latest_in cs (chain_of x) c z in (t.0, omega (arith, t.1), t.2);
     }
 
-pub going_found : (cs : List Cell) (x : Cell) (c : ℕ) → Searching cs x c → at cs c ≡ x → seek cs x (length cs) ≡ c
+pub going_found : (cs : List Cell) (x : Cell) (c : ℕ) → Searching cs x c → at cs c ≡ x → seek cs x (length cs) ≡ Some c
 unfolding seek
-going_found cs x c g e = g.left ∙ cond-true _ c (seek cs x c) (is_same (at cs c) x e)
+going_found cs x c g e = g.left ∙ cond-true _ (Some c) (seek cs x c) (is_same (at cs c) x e)
 
 -- the same of the words
 pub start : (ws : List ℕ) → WellFormed ws → (x : Cell) → x.0 < switches ws → Searching (cells_of ws) x (get_or ws (2 + chain_of x) 0)
@@ -126,7 +126,7 @@ go_on ws s x c hs g z ne =
     subst (Searching (cells_of ws) x) (sym (next_is_found ws s x c g z))
     (going_next (switches ws) (cells_of ws) x s.reduced hs c g (λ q. ne (sym e ∙ q)) t.1)
 
-pub found : (ws : List ℕ) → (x : Cell) (c : ℕ) → Searching (cells_of ws) x c → c ≢ 0 → cell_at ws c ≡ x → c ≡ seek (cells_of ws) x (count ws)
+pub found : (ws : List ℕ) → (x : Cell) (c : ℕ) → Searching (cells_of ws) x c → c ≢ 0 → cell_at ws c ≡ x → Some c ≡ seek (cells_of ws) x (count ws)
 found ws x c g z e =
     let t = g.within z in
     let f : at (cells_of ws) c ≡ cell_at ws c = at_cells ws c (omega (arith, t.1, length_cells ws)) in
@@ -134,18 +134,18 @@ found ws x c g z e =
 
 -- a cell has a higher number than its sides, so that a search ends at the higher of them
 pub not_found : (ws : List ℕ) → WellFormed ws → (x : Cell) (c : ℕ) → x.0 < switches ws → Searching (cells_of ws) x c → c ≤ max x.1 x.2
-    → 0 ≡ seek (cells_of ws) x (count ws)
+    → None ≡ seek (cells_of ws) x (count ws)
 not_found ws s x c hs g h =
     let cs : List Cell = cells_of ws in
-    let m : ℕ = seek cs x (suc c) in
-    let none : m ≡ 0 =
-    ⊎_elim (λ (z : m ≡ 0). z)
-    (λ (z : m ≢ 0).
-    let t = seek_there cs x (suc c) z in
+    let none : seek cs x (suc c) ≡ None =
+    ⊎_elim (λ (z : seek cs x (suc c) ≡ None). z)
+    (λ (z : (m : ℕ) × (seek cs x (suc c) ≡ Some m)).
+    let m : ℕ = z.0 in
+    let t = seek_there cs x (suc c) m z.1 in
     let two : 2 ≤ m =
     ⊎_elim (λ (l : m < 2). absurd (not_end (switches ws) cs x s.reduced hs m l t.1)) (λ (l : 2 ≤ m). l) (cases_lt m 2) in
     let there = g.within (λ q. omega (arith, t.0, two, q)) in
     let o = s.reduced.ordered m two (omega (arith, t.0, there.1)) in
     absurd (omega (arith, t.0, o.low, o.high, ap (λ (y : Cell). y.1) t.1, ap (λ (y : Cell). y.2) t.1, h)))
-    (cases_eq m 0) in
+    (found_or_none (seek cs x (suc c))) in
     sym (g.left ∙ none) ∙ ap (seek cs x) (length_cells ws)

@@ -1,5 +1,5 @@
 -- A set that is held is found and adds nothing, so two cells with one set are one cell.
-use Rattle.std.proofs.Common.{◌≡◌, ℕ, zero, suc, ◌+◌, ◌*◌, ◌^◌, ◌<◌, ◌≤◌, Bool, true, false, cond, ◌&&◌, eqb, ◌≢◌, List, length, sym, refl, ap, ◌∙◌, subst, ⊎_elim, pow-suc, arith}
+use Rattle.std.proofs.Common.{◌≡◌, ℕ, zero, suc, ◌+◌, ◌*◌, ◌^◌, ◌<◌, ◌≤◌, Bool, true, false, cond, ◌&&◌, eqb, ◌≢◌, ◌⊎◌, List, length, Some, None, Option, sym, refl, ap, ◌∙◌, subst, inl, inr, ⊎_elim, pow-suc, arith}
 use Rattle.std.proofs.lemmas.Nat.{pow_pos}
 use Rattle.std.proofs.lemmas.Bool.{eq-eqb, ne_eqb, eqb-true, and_parts, and_from, cases_Bool, cases_lt, cases_eq, cond-true, cond-false}
 use Rattle.cells.specs.Cells.{Cell, at, walk, mean, level, Ordered, Reduced, same, seek, placed, node, build, Canonical}
@@ -19,35 +19,40 @@ is_same x y e =
     and_from _ _ (eq-eqb x.0 y.0 (ap (λ (z : Cell). z.0) e))
     (and_from _ _ (eq-eqb x.1 y.1 (ap (λ (z : Cell). z.1) e)) (eq-eqb x.2 y.2 (ap (λ (z : Cell). z.2) e)))
 
+some_same : {a b : ℕ} → ◌≡◌ {A = Option ℕ} (Some a) (Some b) → a ≡ b
+some_same e = cc
+
+pub none_not_some : {a : ℕ} → ◌≡◌ {A = Option ℕ} None (Some a) → ⊥
+none_not_some e = let z : ◌≡◌ {A = ℕ} 0 1 = cc in omega arith
+
+pub found_or_none : (o : Option ℕ) → (o ≡ None) ⊎ ((c : ℕ) × (o ≡ Some c))
+found_or_none None = inl refl
+found_or_none (Some c) = inr (c, refl)
+
 -- what is found is there
-pub seek_there : (cs : List Cell) (x : Cell) (m : ℕ) → seek cs x m ≢ 0 → (seek cs x m < m) × (at cs (seek cs x m) ≡ x)
+pub seek_there : (cs : List Cell) (x : Cell) (m c : ℕ) → seek cs x m ≡ Some c → (c < m) × (at cs c ≡ x)
 unfolding seek
-seek_there cs x zero h = absurd (h refl)
-seek_there cs x (suc m) h =
+seek_there cs x zero c h = absurd (none_not_some h)
+seek_there cs x (suc m) c h =
     let R : ℕ → Type 0 = λ r. (r < suc m) × (at cs r ≡ x) in
     ⊎_elim
     (λ (e : same (at cs m) x ≡ true).
-    subst R (sym (cond-true _ m (seek cs x m) e)) (omega arith, same_is (at cs m) x e))
+    subst R (some_same (sym (cond-true _ (Some m) (seek cs x m) e) ∙ h)) (omega arith, same_is (at cs m) x e))
     (λ (e : same (at cs m) x ≡ false).
-    let f = cond-false _ m (seek cs x m) e in
-    let ih = seek_there cs x m (λ z. h (f ∙ z)) in
-    subst R (sym f) (omega (arith, ih.0), ih.1))
+    let ih = seek_there cs x m c (sym (cond-false _ (Some m) (seek cs x m) e) ∙ h) in (omega (arith, ih.0), ih.1))
     (cases_Bool (same (at cs m) x))
 
 -- what is not found is not there
-pub seek_none : (cs : List Cell) (x : Cell) (m : ℕ) → at cs 0 ≢ x → seek cs x m ≡ 0 → (c : ℕ) → c < m → at cs c ≢ x
+pub seek_none : (cs : List Cell) (x : Cell) (m : ℕ) → seek cs x m ≡ None → (c : ℕ) → c < m → at cs c ≢ x
 unfolding seek
-seek_none cs x zero z h c hc = absurd (omega arith)
-seek_none cs x (suc m) z h c hc =
+seek_none cs x zero h c hc = absurd (omega arith)
+seek_none cs x (suc m) h c hc =
     ⊎_elim
-    (λ (e : same (at cs m) x ≡ true).
-    let f : m ≡ 0 = sym (cond-true _ m (seek cs x m) e) ∙ h in
-    let g : at cs 0 ≡ x = subst (λ (j : ℕ). at cs j ≡ x) f (same_is (at cs m) x e) in
-    absurd (z g))
+    (λ (e : same (at cs m) x ≡ true). absurd (none_not_some (sym h ∙ cond-true _ (Some m) (seek cs x m) e)))
     (λ (e : same (at cs m) x ≡ false).
-    let f : seek cs x m ≡ 0 = sym (cond-false _ m (seek cs x m) e) ∙ h in
+    let f : seek cs x m ≡ None = sym (cond-false _ (Some m) (seek cs x m) e) ∙ h in
     ⊎_elim
-    (λ (l : c < m). seek_none cs x m z f c l)
+    (λ (l : c < m). seek_none cs x m f c l)
     (λ (l : m ≤ c). λ q.
     let cm : c ≡ m = omega arith in
     let t : same (at cs m) x ≡ true = is_same (at cs m) x (subst (λ (j : ℕ). at cs j ≡ x) cm q) in
@@ -57,21 +62,18 @@ seek_none cs x (suc m) z h c hc =
     (cases_Bool (same (at cs m) x))
 
 -- the one that is there is found
-pub seek_is : (n : ℕ) (cs : List Cell) → Reduced n cs → (x : Cell) (c : ℕ) → 1 ≤ c → c < length cs → at cs c ≡ x → seek cs x (length cs) ≡ c
-seek_is n cs w x c h hc e =
+pub seek_is : (n : ℕ) (cs : List Cell) → Reduced n cs → (x : Cell) (c : ℕ) → c < length cs → at cs c ≡ x → seek cs x (length cs) ≡ Some c
+seek_is n cs w x c hc e =
     ⊎_elim
-    (λ (z : seek cs x (length cs) ≡ 0).
-    absurd (seek_none cs x (length cs)
-    (λ q. let f : 0 ≡ c = w.apart 0 c (omega (arith, w.two)) hc (q ∙ sym e) in omega arith) z c hc e))
-    (λ (z : seek cs x (length cs) ≢ 0).
-    let t = seek_there cs x (length cs) z in
-    w.apart (seek cs x (length cs)) c t.0 hc (t.1 ∙ sym e))
-    (cases_eq (seek cs x (length cs)) 0)
+    (λ (z : seek cs x (length cs) ≡ None). absurd (seek_none cs x (length cs) z c hc e))
+    (λ (z : (d : ℕ) × (seek cs x (length cs) ≡ Some d)).
+    let t = seek_there cs x (length cs) z.0 z.1 in
+    z.1 ∙ ap Some (w.apart z.0 c t.0 hc (t.1 ∙ sym e)))
+    (found_or_none (seek cs x (length cs)))
 
-pub placed_held : (cs : List Cell) (x : Cell) (c : ℕ) → 1 ≤ c → placed cs x c ≡ (cs, c)
+pub placed_held : (cs : List Cell) (x : Cell) (c : ℕ) → placed cs x (Some c) ≡ (cs, c)
 unfolding placed
-placed_held cs x zero h = absurd (omega arith)
-placed_held cs x (suc c) h = refl
+placed_held cs x c = refl
 
 pub node_one : (cs : List Cell) (i r : ℕ) → node cs (i, r, r) ≡ (cs, r)
 unfolding node
@@ -82,8 +84,8 @@ unfolding node
 node_held n cs w c h hc =
     let o : Ordered n cs c = w.ordered c h hc in
     cond-false _ (cs, (at cs c).1) (placed cs (at cs c) (seek cs (at cs c) (length cs))) (ne_eqb (at cs c).1 (at cs c).2 o.differ)
-    ∙ ap (placed cs (at cs c)) (seek_is n cs w (at cs c) c (omega arith) hc refl)
-    ∙ placed_held cs (at cs c) c (omega arith)
+    ∙ ap (placed cs (at cs c)) (seek_is n cs w (at cs c) c hc refl)
+    ∙ placed_held cs (at cs c) c
 
 -- a cell above level 0 asks a switch
 pub level_suc : (cs : List Cell) (r i : ℕ) → level cs r ≡ suc i → (2 ≤ r) × ((at cs r).0 ≡ i)

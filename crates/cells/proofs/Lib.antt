@@ -15,3 +15,5 @@ pub mod Asked
 pub mod Begun
 pub mod Switching
 pub mod Rolling
+pub mod Written
+pub mod Filled

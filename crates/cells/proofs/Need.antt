@@ -1,10 +1,10 @@
 -- Every cell that is added is in the diagram of the answer, and there are fewer than 2^n.
-use Rattle.std.proofs.Common.{◌≡◌, ℕ, zero, suc, ◌+◌, ◌*◌, ◌^◌, ◌<◌, ◌≤◌, Bool, cond, eqb, ◌≢◌, List, [], ◌∷◌, ◌++◌, length, sym, ap, ◌∙◌, subst, ⊎_elim, pow-suc, arith}
+use Rattle.std.proofs.Common.{◌≡◌, ℕ, zero, suc, ◌+◌, ◌*◌, ◌^◌, ◌<◌, ◌≤◌, Bool, cond, eqb, ◌≢◌, List, [], ◌∷◌, ◌++◌, length, Some, None, Option, sym, ap, ◌∙◌, subst, ⊎_elim, pow-suc, arith}
 use Rattle.std.proofs.lemmas.List.{length_push}
 use Rattle.std.proofs.lemmas.Bool.{eq-eqb, ne_eqb, cases_lt, cases_eq, cond-true, cond-false}
 use Rattle.cells.specs.Cells.{Cell, at, Ordered, Reduced, seek, placed, node, build, Grows, Made, Sides, Reaches, Needed}
 use Rattle.cells.specs.Cells.Reaches.{here, by_low, by_high}
-use Rattle.cells.proofs.Held.{seek_there, placed_held}
+use Rattle.cells.proofs.Held.{found_or_none, seek_there, placed_held}
 use Rattle.cells.proofs.Grow.{grows_trans, at_push, level_kept}
 use Rattle.cells.proofs.Build.{placed_none, not_end, node_made, build_made}
 
@@ -43,24 +43,25 @@ node_over : (n : ℕ) (cs : List Cell) (x : Cell) → Reduced n cs → x.0 < n �
 unfolding node
 node_over n cs x w hs =
     let P : List Cell × ℕ → Type 0 = Over cs x in
-    let m : ℕ = seek cs x (length cs) in
+    let o : Option ℕ = seek cs x (length cs) in
     ⊎_elim
     (λ (e : x.1 ≡ x.2). subst P (sym (cond-true _ _ _ (eq-eqb x.1 x.2 e)))
     (record { low = here; high = subst (λ (y : ℕ). Reaches cs x.1 y) e here; new = λ c h l. absurd (omega arith); few = omega arith }))
     (λ (ne : x.1 ≢ x.2).
-    let f : cond (eqb x.1 x.2) (cs, x.1) (placed cs x m) ≡ placed cs x m = cond-false _ _ _ (ne_eqb x.1 x.2 ne) in
+    let f : cond (eqb x.1 x.2) (cs, x.1) (placed cs x o) ≡ placed cs x o = cond-false _ _ _ (ne_eqb x.1 x.2 ne) in
     subst P (sym f)
     (⊎_elim
-    (λ (z : m ≡ 0).
+    (λ (z : o ≡ None).
     let len = length_push cs x in
     subst P (sym (ap (placed cs x) z ∙ placed_none cs x))
     (over_cell cs (cs ++ x ∷ []) x (length cs) w.two (at_push cs x) (λ d h l. omega arith) (omega arith)))
-    (λ (z : m ≢ 0).
-    let t = seek_there cs x (length cs) z in
+    (λ (z : (m : ℕ) × (o ≡ Some m)).
+    let m : ℕ = z.0 in
+    let t = seek_there cs x (length cs) m z.1 in
     let two : 2 ≤ m =
     ⊎_elim (λ (l : m < 2). absurd (not_end n cs x w hs m l t.1)) (λ (l : 2 ≤ m). l) (cases_lt m 2) in
-    subst P (sym (placed_held cs x m (omega arith))) (over_cell cs cs x m two t.1 (λ d h l. absurd (omega arith)) (omega arith)))
-    (cases_eq m 0)))
+    subst P (sym (ap (placed cs x) z.1 ∙ placed_held cs x m)) (over_cell cs cs x m two t.1 (λ d h l. absurd (omega arith)) (omega arith)))
+    (found_or_none o)))
     (cases_eq x.1 x.2)
 
 pub build_needed : (n : ℕ) (cs : List Cell) → Reduced n cs → (i : ℕ) (f : ℕ → Bool) → i ≤ n

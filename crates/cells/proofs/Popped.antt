@@ -8,6 +8,7 @@ use Rattle.cells.specs.Words.{switches, count, cell_at, next_at, cells_of, chain
 use Rattle.cells.proofs.Grow.{grows_refl, grows_trans, level_kept}
 use Rattle.cells.proofs.Pushed.{latest_kept, latest_same}
 use Rattle.cells.proofs.Chained.{cells_of_laid, length_cells}
+use Rattle.cells.proofs.Filled.{length_four, four, four_zero}
 
 -- the first cells of a reduced diagram are one
 pub front_reduced : (n : ℕ) (ds cs : List Cell) → Grows ds cs → 2 ≤ length ds → Reduced n cs → Reduced n ds
@@ -45,46 +46,20 @@ popped_places ws two room =
     let h : ℕ = 2 + chain_of (cell_at ws c) in
     let hh : chain_of (cell_at ws c) < 64 = mod_below _ 64 (omega arith) in
     let l₀ : List ℕ = set ws h (next_at ws c) in
-    let l₁ : List ℕ = set l₀ p 0 in
-    let l₂ : List ℕ = set l₁ (p + 1) 0 in
-    let l₃ : List ℕ = set l₂ (p + 2) 0 in
-    let l₄ : List ℕ = set l₃ (p + 3) 0 in
-    let l₅ : List ℕ = set l₄ 1 c in
+    let l₄ : List ℕ = set (set (set (set l₀ p 0) (p + 1) 0) (p + 2) 0) (p + 3) 0 in
     let n₀ : length l₀ ≡ length ws = length-set ws h (next_at ws c) in
-    let n₁ : length l₁ ≡ length l₀ = length-set l₀ p 0 in
-    let n₂ : length l₂ ≡ length l₁ = length-set l₁ (p + 1) 0 in
-    let n₃ : length l₃ ≡ length l₂ = length-set l₂ (p + 2) 0 in
-    let n₄ : length l₄ ≡ length l₃ = length-set l₃ (p + 3) 0 in
-    let n₅ : length l₅ ≡ length l₄ = length-set l₄ 1 c in
-    let z₀ : get_or l₅ p 0 ≡ 0 =
-    get_or-set_other l₄ 1 p c 0 (λ e. omega arith) ∙ get_or-set_other l₃ (p + 3) p 0 0 (λ e. omega arith)
-    ∙ get_or-set_other l₂ (p + 2) p 0 0 (λ e. omega arith) ∙ get_or-set_other l₁ (p + 1) p 0 0 (λ e. omega arith) ∙ get_or-set_same l₀ p 0 0 (omega arith) in
-    let z₁ : get_or l₅ (p + 1) 0 ≡ 0 =
-    get_or-set_other l₄ 1 (p + 1) c 0 (λ e. omega arith) ∙ get_or-set_other l₃ (p + 3) (p + 1) 0 0 (λ e. omega arith)
-    ∙ get_or-set_other l₂ (p + 2) (p + 1) 0 0 (λ e. omega arith) ∙ get_or-set_same l₁ (p + 1) 0 0 (omega arith) in
-    let z₂ : get_or l₅ (p + 2) 0 ≡ 0 =
-    get_or-set_other l₄ 1 (p + 2) c 0 (λ e. omega arith) ∙ get_or-set_other l₃ (p + 3) (p + 2) 0 0 (λ e. omega arith) ∙ get_or-set_same l₂ (p + 2) 0 0 (omega arith) in
-    let z₃ : get_or l₅ (p + 3) 0 ≡ 0 = get_or-set_other l₄ 1 (p + 3) c 0 (λ e. omega arith) ∙ get_or-set_same l₃ (p + 3) 0 0 (omega arith) in
-    let Z : ℕ → Type 0 = λ i. get_or l₅ i 0 ≡ 0 in
+    let n₄ : length l₄ ≡ length l₀ = length_four p l₀ in
+    let fits : p + 4 ≤ length l₀ = omega (arith, n₀, room) in
     record {
       count_now = get_or-set_same l₄ 1 c 0 (omega arith);
       head_now =
-          get_or-set_other l₄ 1 h c 0 (λ e. omega arith) ∙ get_or-set_other l₃ (p + 3) h 0 0 (λ e. omega arith)
-          ∙ get_or-set_other l₂ (p + 2) h 0 0 (λ e. omega arith) ∙ get_or-set_other l₁ (p + 1) h 0 0 (λ e. omega arith)
-          ∙ get_or-set_other l₀ p h 0 0 (λ e. omega arith) ∙ get_or-set_same ws h (next_at ws c) 0 (omega arith);
-      length_now = n₅ ∙ n₄ ∙ n₃ ∙ n₂ ∙ n₁ ∙ n₀;
-      clear = λ i lo hi.
-          ⊎_elim (λ (e : i ≡ p). subst Z (sym e) z₀)
-          (λ (a : i ≢ p). ⊎_elim (λ (e : i ≡ p + 1). subst Z (sym e) z₁)
-          (λ (b : i ≢ p + 1). ⊎_elim (λ (e : i ≡ p + 2). subst Z (sym e) z₂)
-          (λ (d : i ≢ p + 2). let e : p + 3 ≡ i = omega arith in subst Z e z₃)
-          (cases_eq i (p + 2)))
-          (cases_eq i (p + 1)))
-          (cases_eq i p);
+          get_or-set_other l₄ 1 h c 0 (λ e. omega arith) ∙ four p l₀ h fits (λ e. omega arith) (λ e. omega arith) (λ e. omega arith) (λ e. omega arith)
+          ∙ get_or-set_same ws h (next_at ws c) 0 (omega arith);
+      length_now = length-set l₄ 1 c ∙ n₄ ∙ n₀;
+      clear = λ i lo hi. get_or-set_other l₄ 1 i c 0 (λ e. omega arith) ∙ four_zero p l₀ i fits lo hi;
       other = λ i a b o.
-          get_or-set_other l₄ 1 i c 0 a ∙ get_or-set_other l₃ (p + 3) i 0 0 (λ e. omega arith)
-          ∙ get_or-set_other l₂ (p + 2) i 0 0 (λ e. omega arith) ∙ get_or-set_other l₁ (p + 1) i 0 0 (λ e. omega arith)
-          ∙ get_or-set_other l₀ p i 0 0 (λ e. omega arith) ∙ get_or-set_other ws h i (next_at ws c) 0 b;
+          get_or-set_other l₄ 1 i c 0 a ∙ four p l₀ i fits (λ e. omega arith) (λ e. omega arith) (λ e. omega arith) (λ e. omega arith)
+          ∙ get_or-set_other ws h i (next_at ws c) 0 b;
     }
 
 -- the cells but the last lie in the words

@@ -1,14 +1,15 @@
 -- Adding a cell at the head of its chain.
-use Rattle.std.proofs.Common.{◌≡◌, ℕ, zero, suc, ◌+◌, ◌*◌, ◌<◌, ◌≤◌, cond, ◌&&◌, eqb, ltb, ◌≢◌, ◌⊎◌, List, [], ◌∷◌, ◌++◌, length, get_or, set, sym, refl, ap, ◌∙◌, subst, ap₂, inl, inr, ⊎_elim, arith}
+use Rattle.std.proofs.Common.{◌≡◌, ℕ, zero, suc, ◌+◌, ◌*◌, ◌<◌, ◌≤◌, cond, ◌&&◌, eqb, ltb, ◌≢◌, ◌⊎◌, List, [], ◌∷◌, ◌++◌, length, get_or, set, Some, None, sym, refl, ap, ◌∙◌, subst, ap₂, inl, inr, ⊎_elim, arith}
 use Rattle.std.proofs.lemmas.Nat.{mod_below}
 use Rattle.std.proofs.lemmas.List.{length-set, get_or-set_same, get_or-set_other, length_push}
 use Rattle.std.proofs.lemmas.Bool.{eq-eqb, ne_eqb, lt-ltb, and_from, and_right, cases_lt, cases_eq, cond-true, cond-false}
 use Rattle.cells.specs.Cells.{Cell, at, Reduced, Grows, Sides, seek, node, placed}
-use Rattle.cells.specs.Words.{switches, count, cell_at, next_at, cells_of, chain_of, latest, Lies, WellFormed, pushed, capacity, Stepped, OutOfRoom}
+use Rattle.cells.specs.Words.{switches, count, cell_at, next_at, cells_of, chain_of, latest, Lies, WellFormed, written, pushed, capacity, Stepped, OutOfRoom}
 use Rattle.cells.proofs.Grow.{grows_refl, grows_push, at_push, push_reduced}
 use Rattle.cells.proofs.Held.{seek_none, placed_held, node_one}
-use Rattle.cells.proofs.Build.{placed_none, not_end}
+use Rattle.cells.proofs.Build.{placed_none}
 use Rattle.cells.proofs.Chained.{cells_of_laid, length_cells}
+use Rattle.cells.proofs.Written.{written_places, cell_stays}
 
 -- what is at each place after a cell is added
 pub record Places (ws ws' : List ℕ) (x : Cell) : Type 0 where
@@ -24,40 +25,27 @@ pushed_places ws x room =
     let p : ℕ = 1090 + 4 * count ws in
     let h : ℕ = 2 + chain_of x in
     let hh : chain_of x < 64 = mod_below _ 64 (omega arith) in
-    let l₀ : List ℕ = set ws p x.0 in
-    let l₁ : List ℕ = set l₀ (p + 1) x.1 in
-    let l₂ : List ℕ = set l₁ (p + 2) x.2 in
+    let w = written_places ws (count ws) x (omega arith) in
+    let l₂ : List ℕ = written ws (count ws) x in
     let l₃ : List ℕ = set l₂ (p + 3) (get_or ws h 0) in
     let l₄ : List ℕ = set l₃ h (count ws) in
     let l₅ : List ℕ = set l₄ 1 (count ws + 1) in
-    let n₀ : length l₀ ≡ length ws = length-set ws p x.0 in
-    let n₁ : length l₁ ≡ length l₀ = length-set l₀ (p + 1) x.1 in
-    let n₂ : length l₂ ≡ length l₁ = length-set l₁ (p + 2) x.2 in
+    let n₂ : length l₂ ≡ length ws = w.length_now in
     let n₃ : length l₃ ≡ length l₂ = length-set l₂ (p + 3) (get_or ws h 0) in
     let n₄ : length l₄ ≡ length l₃ = length-set l₃ h (count ws) in
     let n₅ : length l₅ ≡ length l₄ = length-set l₄ 1 (count ws + 1) in
     let top : (i : ℕ) → i ≢ 1 → i ≢ h → get_or l₅ i 0 ≡ get_or l₃ i 0 =
     λ i a b. get_or-set_other l₄ 1 i (count ws + 1) 0 a ∙ get_or-set_other l₃ h i (count ws) 0 b in
-    let c₀ : get_or l₅ p 0 ≡ x.0 =
-    top p (λ e. omega arith) (λ e. omega arith)
-    ∙ get_or-set_other l₂ (p + 3) p _ 0 (λ e. omega arith) ∙ get_or-set_other l₁ (p + 2) p _ 0 (λ e. omega arith)
-    ∙ get_or-set_other l₀ (p + 1) p _ 0 (λ e. omega arith) ∙ get_or-set_same ws p x.0 0 (omega arith) in
-    let c₁ : get_or l₅ (p + 1) 0 ≡ x.1 =
-    top (p + 1) (λ e. omega arith) (λ e. omega arith)
-    ∙ get_or-set_other l₂ (p + 3) (p + 1) _ 0 (λ e. omega arith) ∙ get_or-set_other l₁ (p + 2) (p + 1) _ 0 (λ e. omega arith)
-    ∙ get_or-set_same l₀ (p + 1) x.1 0 (omega arith) in
-    let c₂ : get_or l₅ (p + 2) 0 ≡ x.2 =
-    top (p + 2) (λ e. omega arith) (λ e. omega arith)
-    ∙ get_or-set_other l₂ (p + 3) (p + 2) _ 0 (λ e. omega arith) ∙ get_or-set_same l₁ (p + 2) x.2 0 (omega arith) in
+    let below : (j : ℕ) → j < 3 → get_or l₅ (p + j) 0 ≡ get_or l₂ (p + j) 0 =
+    λ j b. top (p + j) (λ e. omega arith) (λ e. omega arith) ∙ get_or-set_other l₂ (p + 3) (p + j) _ 0 (λ e. omega arith) in
     record {
       count_now = get_or-set_same l₄ 1 (count ws + 1) 0 (omega arith);
       head_now = get_or-set_other l₄ 1 h (count ws + 1) 0 (λ e. omega arith) ∙ get_or-set_same l₃ h (count ws) 0 (omega arith);
-      cell_now = λ i. (c₀ i, c₁ i, c₂ i);
+      cell_now = cell_stays l₂ l₅ (count ws) below ∙ w.cell_now;
       next_now = top (p + 3) (λ e. omega arith) (λ e. omega arith) ∙ get_or-set_same l₂ (p + 3) (get_or ws h 0) 0 (omega arith);
-      length_now = n₅ ∙ n₄ ∙ n₃ ∙ n₂ ∙ n₁ ∙ n₀;
-      other = λ i a b o. top i a b
-          ∙ get_or-set_other l₂ (p + 3) i _ 0 (λ e. omega arith) ∙ get_or-set_other l₁ (p + 2) i _ 0 (λ e. omega arith)
-          ∙ get_or-set_other l₀ (p + 1) i _ 0 (λ e. omega arith) ∙ get_or-set_other ws p i _ 0 (λ e. omega arith);
+      length_now = n₅ ∙ n₄ ∙ n₃ ∙ n₂;
+      other = λ i a b o. top i a b ∙ get_or-set_other l₂ (p + 3) i _ 0 (λ e. omega arith)
+          ∙ w.other i (⊎_elim (λ (l : i < p). inl l) (λ (l : p + 4 ≤ i). inr (omega arith)) o);
     }
 
 pub latest_kept : (cs ds : List Cell) → Grows cs ds → (h m : ℕ) → m ≤ length cs → latest ds h m ≡ latest cs h m
@@ -146,27 +134,27 @@ node_placed : (cs : List Cell) (x : Cell) → x.1 ≢ x.2 → node cs x ≡ plac
 unfolding node
 node_placed cs x ne = cond-false _ _ _ (ne_eqb x.1 x.2 ne)
 
-pub stepped_held : (ws : List ℕ) → WellFormed ws → (x : Cell) (r : ℕ) → x.1 ≢ x.2 → r ≢ 0 → r ≡ seek (cells_of ws) x (count ws)
+pub stepped_held : (ws : List ℕ) → WellFormed ws → (x : Cell) (r : ℕ) → x.1 ≢ x.2 → Some r ≡ seek (cells_of ws) x (count ws)
     → Stepped ws ws (node (cells_of ws) x) r
-stepped_held ws s x r ne z e =
+stepped_held ws s x r ne e =
     let cs : List Cell = cells_of ws in
-    let f : r ≡ seek cs x (length cs) = e ∙ ap (seek cs x) (sym (length_cells ws)) in
+    let f : Some r ≡ seek cs x (length cs) = e ∙ ap (seek cs x) (sym (length_cells ws)) in
     record {
       formed = s;
-      answers = sym (node_placed cs x ne ∙ ap (placed cs x) (sym f) ∙ placed_held cs x r (omega arith));
+      answers = sym (node_placed cs x ne ∙ ap (placed cs x) (sym f) ∙ placed_held cs x r);
       grows = grows_refl cs;
       switches_same = refl;
       beyond = λ i h. refl;
     }
 
-node_new : (ws : List ℕ) → (x : Cell) → x.1 ≢ x.2 → 0 ≡ seek (cells_of ws) x (count ws)
+node_new : (ws : List ℕ) → (x : Cell) → x.1 ≢ x.2 → None ≡ seek (cells_of ws) x (count ws)
     → node (cells_of ws) x ≡ (cells_of ws ++ x ∷ [], length (cells_of ws))
 node_new ws x ne e =
     let cs : List Cell = cells_of ws in
-    let f : 0 ≡ seek cs x (length cs) = e ∙ ap (seek cs x) (sym (length_cells ws)) in
+    let f : None ≡ seek cs x (length cs) = e ∙ ap (seek cs x) (sym (length_cells ws)) in
     node_placed cs x ne ∙ ap (placed cs x) (sym f) ∙ placed_none cs x
 
-pub out_of_room : (ws : List ℕ) → WellFormed ws → (x : Cell) → x.1 ≢ x.2 → 0 ≡ seek (cells_of ws) x (count ws) → capacity ws ≤ count ws
+pub out_of_room : (ws : List ℕ) → WellFormed ws → (x : Cell) → x.1 ≢ x.2 → None ≡ seek (cells_of ws) x (count ws) → capacity ws ≤ count ws
     → OutOfRoom ws ws (node (cells_of ws) x)
 out_of_room ws s x ne e full =
     let cs : List Cell = cells_of ws in
@@ -181,18 +169,18 @@ out_of_room ws s x ne e full =
       beyond = λ i h. refl;
     }
 
-pub stepped_new : (ws ws' : List ℕ) → WellFormed ws → (x : Cell) → Sides (switches ws) (cells_of ws) x → x.1 ≢ x.2 → 0 ≡ seek (cells_of ws) x (count ws)
+pub stepped_new : (ws ws' : List ℕ) → WellFormed ws → (x : Cell) → Sides (switches ws) (cells_of ws) x → x.1 ≢ x.2 → None ≡ seek (cells_of ws) x (count ws)
     → count ws < capacity ws → Places ws ws' x → Stepped ws ws' (node (cells_of ws) x) (count ws)
 stepped_new ws ws' s x sd ne e room p =
     let cs : List Cell = cells_of ws in
     let n : ℕ = switches ws in
     let g : length cs ≡ count ws = length_cells ws in
-    let f : 0 ≡ seek cs x (length cs) = e ∙ ap (seek cs x) (sym g) in
+    let f : None ≡ seek cs x (length cs) = e ∙ ap (seek cs x) (sym g) in
     let two : 2 ≤ length cs = s.reduced.two in
     let l : Lies n (cs ++ x ∷ []) ws' = pushed_lies n cs ws ws' x s.lies two (omega arith) (omega arith) p in
     let c : cells_of ws' ≡ cs ++ x ∷ [] = cells_of_laid n (cs ++ x ∷ []) ws' l in
     let w : Reduced n (cs ++ x ∷ []) =
-    push_reduced n cs x s.reduced sd ne (seek_none cs x (length cs) (not_end n cs x s.reduced sd.switch 0 (omega arith)) (sym f)) in
+    push_reduced n cs x s.reduced sd ne (seek_none cs x (length cs) (sym f)) in
     let q : switches ws' ≡ n = l.switches_are in
     record {
       formed = record {

@@ -8,8 +8,8 @@
 --   Ordered n cs c          cell c asks one of n switches, and its two sides, which differ, ask lower ones
 --   Reduced n cs            a reduced diagram over n switches
 --   same x y                two cells agree in all three
---   seek cs x m             the number below m of a cell that is x; 0 where there is none
---   placed cs x c           the cell x, held under c or, where c is 0, added
+--   seek cs x m             the number below m of a cell that is x, if there is one
+--   placed cs x o           the cell x, held under the number o or, where there is none, added
 --   node cs x               the cell x, held or added; where its sides are one cell, that one
 --   build cs i f            the reduced diagram of the set f of configurations below 2^i: low side, high side, then the cell
 --   Canonical               two cells with one set are one cell
@@ -21,7 +21,7 @@
 --   Sides n cs x            the cell x may be added over its sides
 --   Reaches cs r c          cell c is in the diagram of cell r
 --   Needed                  what `build` adds is of the result's diagram, and fewer than 2^n cells
-use Rattle.std.specs.Prelude.{◌≡◌, ℕ, zero, suc, ◌+◌, ◌/◌, ◌%◌, ◌^◌, ◌<◌, ◌≤◌, Bool, true, false, cond, ◌&&◌, ◌≢◌, List, [], ◌∷◌, ◌++◌, length, ◌==◌, slice_index_or}
+use Rattle.std.specs.Prelude.{◌≡◌, ℕ, zero, suc, ◌+◌, ◌/◌, ◌%◌, ◌^◌, ◌<◌, ◌≤◌, Bool, true, false, cond, ◌&&◌, ◌≢◌, List, [], ◌∷◌, ◌++◌, length, Some, None, Option, ◌==◌, slice_index_or}
 
 abbrev pub Cell : Type 0
 Cell = ℕ × ℕ × ℕ
@@ -68,13 +68,13 @@ pub record Reduced (n : ℕ) (cs : List Cell) : Type 0 where
 abbrev pub same : Cell → Cell → Bool
 same x y = x.0 == y.0 && (x.1 == y.1 && x.2 == y.2)
 
-unfoldable pub seek : List Cell → Cell → ℕ → ℕ
-seek cs x zero = 0
-seek cs x (suc m) = cond (same (at cs m) x) m (seek cs x m)
+unfoldable pub seek : List Cell → Cell → ℕ → Option ℕ
+seek cs x zero = None
+seek cs x (suc m) = cond (same (at cs m) x) (Some m) (seek cs x m)
 
-unfoldable pub placed : List Cell → Cell → ℕ → List Cell × ℕ
-placed cs x zero = (cs ++ x ∷ [], length cs)
-placed cs x (suc c) = (cs, suc c)
+unfoldable pub placed : List Cell → Cell → Option ℕ → List Cell × ℕ
+placed cs x None = (cs ++ x ∷ [], length cs)
+placed cs x (Some c) = (cs, c)
 
 unfoldable pub node : List Cell → Cell → List Cell × ℕ
 node cs x = cond (x.1 == x.2) (cs, x.1) (placed cs x (seek cs x (length cs)))

@@ -1,6 +1,6 @@
 // Where things lie in the words: the number of switches, the number of cells, the chain heads, the working words, then the cells.
-ghost use Rattle.std.specs.Prelude.{◌≡◌, ◌≤◌, length};
-ghost use Rattle.cells.specs.Words.{chain_of, capacity};
+ghost use Rattle.std.specs.Prelude.{◌≡◌, ◌+◌, ◌*◌, ◌≤◌, length};
+ghost use Rattle.cells.specs.Words.{capacity};
 
 // The most cells that are used, however many words there are: two numbers then go into one word.
 pub const MAX_CAPACITY: usize = 65_535;
@@ -44,11 +44,11 @@ pub const ALL: u32 = 1;
 // The two cells below the floor are never released.
 pub const FLOOR: u32 = 2;
 
-// The chain of a cell.
-pub(crate) fn chain(switch: u32, low: u32, high: u32) -> usize
-    ensures { result ≡ chain_of (switch, low, high) }
+// The first word of a cell.
+pub(crate) fn place(cell: u32) -> usize
+    ensures { result ≡ 1090 + 4 * cell }
 {
-    (switch as usize + 3 * low as usize + 5 * high as usize) % CHAINS
+    CELLS + CELL_WORDS * cell as usize
 }
 
 // How many cells there is room for.

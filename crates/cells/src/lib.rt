@@ -5,5 +5,6 @@
 
 pub mod layout;
 pub mod making;
+pub mod node;
 pub mod pool;
 pub mod questions;

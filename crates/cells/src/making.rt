@@ -3,9 +3,8 @@ ghost use Rattle.std.specs.Prelude.{◌≤◌, length};
 ghost use Rattle.stores.specs.Making.{Prepared};
 ghost use Rattle.cells.specs.Words.{Wiped, New, due};
 
-use super::layout::{
-    ALL, CELL_WORDS, CELLS, COUNT_WORD, FLOOR, HIGH, LOW, N_WORD, NO_SWITCH, room,
-};
+use super::layout::{ALL, COUNT_WORD, EMPTY, FLOOR, N_WORD, place, room};
+use super::node::Node;
 use stores::MAX_SWITCHES;
 use stores::fault::StoreFault;
 
@@ -17,7 +16,7 @@ pub(crate) fn wipe(words: &mut [u32])
     requires { 1090 ≤ length words.old }
     ensures { Wiped words.old words.new }
 {
-    let end = CELLS + CELL_WORDS * room(words) as usize;
+    let end = place(room(words));
     words[..end].fill(0);
 }
 
@@ -34,9 +33,7 @@ pub fn prepare(words: &mut [u32], n: u32) -> Result<(), StoreFault>
     wipe(words);
     words[N_WORD] = n;
     words[COUNT_WORD] = FLOOR;
-    words[CELLS] = NO_SWITCH;
-    words[CELLS + CELL_WORDS] = NO_SWITCH;
-    words[CELLS + CELL_WORDS + LOW] = ALL;
-    words[CELLS + CELL_WORDS + HIGH] = ALL;
+    Node::leaf(EMPTY).write(words, EMPTY);
+    Node::leaf(ALL).write(words, ALL);
     Ok(())
 }

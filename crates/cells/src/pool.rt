@@ -1,67 +1,49 @@
 // The pool of cells: each lies on the chain that its switch and sides give, newest first, so that none is added twice. 0 ends a chain.
+// What writes takes the bare words: tried as methods of a struct round them, each had to promise instead that it leaves the same words in it.
 ghost use Rattle.std.specs.Prelude.{◌≡◌, ◌+◌, ◌*◌, ◌<◌, ◌≤◌, length, OnErr};
 ghost use Rattle.stores.specs.declared.fault.StoreFault.TheVariants.{NoSwitch};
-ghost use Rattle.cells.specs.Cells.{seek, node, Sides};
+ghost use Rattle.cells.specs.Cells.{node, Sides};
+ghost use Rattle.cells.specs.Nodes.{cell_of};
 ghost use Rattle.cells.specs.Words.{WellFormed, Valid, switches, count, cells_of, switch_of, pushed, popped, Cut, StepOutcome, SameWorking, Operated};
 
-use super::layout::{
-    ALL, CELL_WORDS, CELLS, COUNT_WORD, EMPTY, HEADS, HIGH, LOW, N_WORD, NEXT, chain, room,
-};
+use super::layout::{ALL, CELL_WORDS, COUNT_WORD, EMPTY, HEADS, N_WORD, NEXT, place, room};
+use super::node::Node;
+use super::questions::Cells;
 use stores::fault::StoreFault;
 
-// The number of the cell with this switch and these sides, or 0. Numbers fall along a chain, and a cell's is above its sides', so that the search can end there.
-pub(crate) fn seek_cell(words: &[u32], switch: u32, low: u32, high: u32) -> u32
-    requires { (WellFormed words.now) × (switch < switches words.now) }
-    ensures { result ≡ seek (cells_of words.now) (switch, low, high) (count words.now) }
-{
-    let mut cell = words[HEADS + chain(switch, low, high)];
-    while cell > low.max(high) {
-        let place = CELLS + CELL_WORDS * cell as usize;
-        if words[place] == switch && words[place + LOW] == low && words[place + HIGH] == high {
-            return cell;
-        }
-        cell = words[place + NEXT];
-    }
-    0
-}
-
 // Adds a cell, which heads its chain.
-pub(crate) fn push_cell(words: &mut [u32], switch: u32, low: u32, high: u32) -> u32
+pub(crate) fn push_cell(words: &mut [u32], x: Node) -> u32
     requires { (1090 + 4 * count words.old + 4 ≤ length words.old) × (count words.old < 65535) }
     ensures number { result ≡ count words.old }
-    ensures after { words.new ≡ pushed words.old (switch, low, high) }
+    ensures after { words.new ≡ pushed words.old (cell_of x) }
 {
     let cell = words[COUNT_WORD];
-    let place = CELLS + CELL_WORDS * cell as usize;
-    let head = HEADS + chain(switch, low, high);
+    let head = HEADS + x.chain();
     let older = words[head];
-    words[place] = switch;
-    words[place + LOW] = low;
-    words[place + HIGH] = high;
-    words[place + NEXT] = older;
+    x.write(words, cell);
+    words[place(cell) + NEXT] = older;
     words[head] = cell;
     words[COUNT_WORD] = cell + 1;
     cell
 }
 
-// The cell with this switch and these sides: one that is held, or a new one.
-pub fn join_cells(words: &mut [u32], switch: u32, low: u32, high: u32) -> Result<u32, StoreFault>
-    requires { (WellFormed words.old) × (Sides (switches words.old) (cells_of words.old) (switch, low, high)) }
-    ensures outcome { StepOutcome words.old words.new (node (cells_of words.old) (switch, low, high)) result }
+// The number of a cell: it is held, or added. A cell whose sides are one asks nothing, and that one is taken.
+pub fn join_cells(words: &mut [u32], x: Node) -> Result<u32, StoreFault>
+    requires { (WellFormed words.old) × (Sides (switches words.old) (cells_of words.old) (cell_of x)) }
+    ensures outcome { StepOutcome words.old words.new (node (cells_of words.old) (cell_of x)) result }
     ensures working { SameWorking words.old words.new }
     ensures same { OnErr result (words.new ≡ words.old) }
 {
-    if low == high {
-        return Ok(low);
+    if x.low == x.high {
+        return Ok(x.low);
     }
-    let found = seek_cell(words, switch, low, high);
-    if found != 0 {
+    if let Some(found) = (Cells { words }).seek(x) {
         return Ok(found);
     }
     if words[COUNT_WORD] >= room(words) {
         return Err(StoreFault::Full);
     }
-    Ok(push_cell(words, switch, low, high))
+    Ok(push_cell(words, x))
 }
 
 // The configurations that have switch `i` on: one cell at most is added, and no working word is used.
@@ -72,7 +54,14 @@ pub fn switch_cell(words: &mut [u32], i: u32) -> Result<u32, StoreFault>
     if i >= words[N_WORD] {
         return Err(StoreFault::NoSwitch);
     }
-    join_cells(words, i, EMPTY, ALL)
+    join_cells(
+        words,
+        Node {
+            switch: i,
+            low: EMPTY,
+            high: ALL,
+        },
+    )
 }
 
 // Takes the last cell out of its chain and away.
@@ -81,13 +70,10 @@ pub(crate) fn pop_cell(words: &mut [u32])
     ensures { words.new ≡ popped words.old }
 {
     let cell = words[COUNT_WORD] - 1;
-    let place = CELLS + CELL_WORDS * cell as usize;
-    let head = HEADS + chain(words[place], words[place + LOW], words[place + HIGH]);
+    let place = place(cell);
+    let head = HEADS + (Cells { words }).node(cell).chain();
     words[head] = words[place + NEXT];
-    words[place] = 0;
-    words[place + LOW] = 0;
-    words[place + HIGH] = 0;
-    words[place + NEXT] = 0;
+    words[place..place + CELL_WORDS].fill(0);
     words[COUNT_WORD] = cell;
 }
 

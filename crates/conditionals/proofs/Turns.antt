@@ -1,61 +1,52 @@
--- What each kind of line makes of a shape, by the tests that the code asks.
-use Rattle.std.proofs.Common.{◌≡◌, ℕ, suc, ◌<◌, ◌≤◌, Bool, true, false, not, ◌&&◌, leb, List, [], ◌∷◌, ◌++◌, length, Some, None, Ok, Err, Result, sym, ap, ◌∙◌, ap₂}
-use Rattle.std.proofs.lemmas.Bool.{cond-true, cond-false, le-leb, lt-leb, and_left, and_right}
+-- A name that has no entry, and the shape before the first line.
+use Rattle.std.proofs.Common.{◌≡◌, ℕ, suc, ◌<◌, ◌≤◌, Bool, true, false, cond, not, ◌&&◌, leb, List, [], ◌∷◌, ◌++◌, length, is_some, Some, None, Ok, Err, Option, Bor, sym, refl, ap, ◌∙◌}
+use Rattle.std.proofs.lemmas.Bool.{cond-true, cond-false, le-leb, lt-leb}
 use Rattle.faults.specs.declared.Refusal.{Refusal}
 use Rattle.text.specs.Tokens.{Bytes}
+use Rattle.names.specs.Names.{texts, index_of}
+use Rattle.sources.specs.Lines.{nil}
 use Rattle.sources.specs.Faults.{of_conditionals}
-use Rattle.conditionals.specs.Shape.{Shape, nil, has, opened, furthered, ended, entered, ends, begun}
+use Rattle.conditionals.specs.Shape.{Shape, has, entered, ends, begun}
 use Rattle.conditionals.specs.Answers.{beginning}
 
-abbrev Answer : Type 0
-Answer = Result Shape Refusal
+pub texts_length : (rs : List (Bor Bytes)) → length (texts rs) ≡ length rs
+texts_length [] = refl
+texts_length (r ∷ rs) = ap suc (texts_length rs)
 
-abbrev grown : Bool → List Bool → Shape → Shape
-grown b cs s = record { chains = b ∷ cs; blocks = suc s.blocks; names = s.names }
+pub texts_append : (a b : List (Bor Bytes)) → texts (a ++ b) ≡ texts a ++ texts b
+texts_append [] b = refl
+texts_append (r ∷ a) b = ap (λ (l : List Bytes). r.now ∷ l) (texts_append a b)
 
-module _ (last : Bool) (n : ℕ) where
-  pub ends_refused : (z : Answer) (f : Refusal) → z ≡ Err f → ends last n z ≡ Err f
-  ends_refused z f e = ap (ends last n) e
+-- the look-up found no entry
+pub not_known : (x : Bytes) (xs items : List (Bor Bytes)) (o : Option ℕ) → xs ≡ items → o ≡ index_of (texts xs) x → false ≡ is_some o → has x (texts items) ≡ false
+not_known x xs items o e q h = sym (h ∙ ap is_some q ∙ ap (λ (l : List (Bor Bytes)). has x (texts l)) e)
 
-  pub ends_open : (z : Answer) (s : Shape) → z ≡ Ok s → (last && not (nil s.chains)) ≡ true → ends last n z ≡ Err (of_conditionals 21 n)
-  ends_open z s e t = ap (ends last n) e ∙ cond-true (last && not (nil s.chains)) _ _ t
+stopped_by : (b : Bool) (f g : Refusal) (s s' : Shape) → cond b (Err g) (Ok s) ≡ Err f → cond b (Err g) (Ok s') ≡ Err f
+stopped_by true f g s s' e = cc
+stopped_by false f g s s' e = absurd cc
 
-  pub ends_ok : (z : Answer) (s : Shape) → z ≡ Ok s → (last && not (nil s.chains)) ≡ false → ends last n z ≡ Ok s
-  ends_ok z s e f = ap (ends last n) e ∙ cond-false (last && not (nil s.chains)) _ _ f
+done_by : (b : Bool) (g : Refusal) (s s' t : Shape) → cond b (Err g) (Ok s) ≡ Ok t → cond b (Err g) (Ok s') ≡ Ok s'
+done_by true g s s' t e = absurd cc
+done_by false g s s' t e = refl
 
-  -- a chain is open behind the line
-  pub open_last : (cs cs' : List Bool) (b : Bool) → cs ≡ b ∷ cs' → last ≡ true → (last && not (nil cs)) ≡ true
-  open_last cs cs' b e t = ap₂ (λ (v : Bool) (l : List Bool). v && not (nil l)) t e
+module _ (n : ℕ) (last : Bool) (s : Shape) (x : Bytes) (unknown : has x s.names ≡ false) where
+  pub enter_full : 64 ≤ length s.names → ends last n (entered n x true s) ≡ Err (of_conditionals 20 n)
+  enter_full l =
+      ap (ends last n) (cond-true (not (has x s.names)) _ _ (ap not unknown) ∙ cond-true (leb 64 (length s.names)) _ _ (le-leb 64 (length s.names) l))
 
-  pub none_open : (cs : List Bool) → cs ≡ [] → (last && not (nil cs)) ≡ false
-  none_open cs e = and_right last (not (nil cs)) (ap (λ (l : List Bool). not (nil l)) e)
+  module _ (l : length s.names < 64) where
+    abbrev longer : Shape
+    longer = record { chains = s.chains; blocks = s.blocks; names = s.names ++ x ∷ [] }
 
-  pub not_last : (cs : List Bool) → last ≡ false → (last && not (nil cs)) ≡ false
-  not_last cs f = and_left last (not (nil cs)) f
+    enter_new : ends last n (entered n x true s) ≡ ends last n (Ok longer)
+    enter_new =
+        ap (ends last n) (cond-true (not (has x s.names)) _ _ (ap not unknown) ∙ cond-false (leb 64 (length s.names)) _ _ (lt-leb 64 (length s.names) l))
 
-module _ (n : ℕ) (s : Shape) where
-  pub opened_ok : length s.chains < 32 → s.blocks < 255 → opened n s ≡ Ok (grown false s.chains s)
-  opened_ok h b =
-      cond-false (leb 32 (length s.chains)) _ _ (lt-leb 32 (length s.chains) h) ∙ cond-false (leb 255 s.blocks) _ _ (lt-leb 255 s.blocks b)
+    pub enter_stopped : (f : Refusal) → ends last n (Ok s) ≡ Err f → ends last n (entered n x true s) ≡ Err f
+    enter_stopped f e = enter_new ∙ stopped_by (last && not (nil s.chains)) f _ s longer e
 
-  pub furthered_else : (b : Bool) (cs cs' : List Bool) → cs ≡ true ∷ cs' → furthered n b cs s ≡ Err (of_conditionals 17 n)
-  furthered_else b cs cs' e = ap (λ (l : List Bool). furthered n b l s) e
-
-  pub furthered_blocks : (b : Bool) (cs cs' : List Bool) → cs ≡ false ∷ cs' → 255 ≤ s.blocks → furthered n b cs s ≡ Err (of_conditionals 19 n)
-  furthered_blocks b cs cs' e h = ap (λ (l : List Bool). furthered n b l s) e ∙ cond-true (leb 255 s.blocks) _ _ (le-leb 255 s.blocks h)
-
-  pub furthered_ok : (b : Bool) (cs cs' : List Bool) → cs ≡ false ∷ cs' → s.blocks < 255 → furthered n b cs s ≡ Ok (grown b cs' s)
-  furthered_ok b cs cs' e h = ap (λ (l : List Bool). furthered n b l s) e ∙ cond-false (leb 255 s.blocks) _ _ (lt-leb 255 s.blocks h)
-
-  pub ended_ok : (b : Bool) (cs cs' : List Bool) → cs ≡ b ∷ cs' → ended n cs s ≡ Ok (record { chains = cs'; blocks = s.blocks; names = s.names })
-  ended_ok b cs cs' e = ap (λ (l : List Bool). ended n l s) e
-
-  module _ (x : Bytes) where
-    pub entered_full : has x s.names ≡ false → 64 ≤ length s.names → entered n x true s ≡ Err (of_conditionals 20 n)
-    entered_full h l = cond-true (not (has x s.names)) _ _ (ap not h) ∙ cond-true (leb 64 (length s.names)) _ _ (le-leb 64 (length s.names) l)
-
-    pub entered_new : has x s.names ≡ false → length s.names < 64 → entered n x true s ≡ Ok (record { chains = s.chains; blocks = s.blocks; names = s.names ++ x ∷ [] })
-    entered_new h l = cond-true (not (has x s.names)) _ _ (ap not h) ∙ cond-false (leb 64 (length s.names)) _ _ (lt-leb 64 (length s.names) l)
+    pub enter_done : (t : Shape) → ends last n (Ok s) ≡ Ok t → ends last n (entered n x true s) ≡ Ok longer
+    enter_done t e = enter_new ∙ done_by (last && not (nil s.chains)) _ s longer t e
 
 pub beginning_none : (ns : List Bytes) → 64 < length ns → None ≡ beginning ns
 beginning_none ns h = sym (cond-false (leb (length ns) 64) (Some (begun ns)) None (lt-leb (length ns) 64 h))

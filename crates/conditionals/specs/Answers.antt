@@ -5,7 +5,7 @@
 --   shown_shape n s y  the shape after a line of number n that the code sees as y, or the first of the refusals 17 to 20
 --   Proper x          an `if` has a condition: only a further block asks nothing
 --   Reads s s' z r    from s to s' the answer r is what the definition's z says: the shape behind the line, or the same refusal, and then nothing changed
-use Rattle.std.specs.Prelude.{◌≡◌, ℕ, true, false, cond, List, reverse, length, take, Some, None, Ok, Err, Option, Result, nat_le}
+use Rattle.std.specs.Prelude.{◌≡◌, ℕ, true, false, cond, List, reverse, length, Some, None, Ok, Err, Option, Result, nat_le}
 use Rattle.faults.specs.declared.Refusal.{Refusal}
 use Rattle.text.specs.Tokens.{Bytes}
 use Rattle.names.specs.Names.{texts}
@@ -17,7 +17,7 @@ use Rattle.conditionals.specs.Shape.{Shape, is_else, opened, furthered, ended, e
 use Rattle.conditionals.specs.declared.Shape as code
 
 abbrev pub shape_of : code.Shape → Shape
-shape_of s = record { chains = reverse (take s.depth s.else_read); blocks = s.blocks; names = texts (take s.count s.names) }
+shape_of s = record { chains = reverse s.chains.items; blocks = s.blocks; names = texts s.names.items }
 
 abbrev pub beginning : List Bytes → Option Shape
 beginning names = cond (nat_le (length names) 64) (Some (begun names)) None

@@ -7,10 +7,10 @@ use Rattle.std.specs.Prelude.{ℕ, suc, Bool, false, List, [], ◌∷◌, Ok, Re
 use Rattle.faults.specs.declared.Refusal.{Refusal}
 use Rattle.text.specs.Tokens.{Bytes}
 use Rattle.scanning.specs.Modes.{open_after}
-use Rattle.sources.specs.Lines.{lines, is_too_large}
+use Rattle.sources.specs.Lines.{nil, lines, is_too_large}
 use Rattle.sources.specs.Classified.{Line, classified, then, refuse, changed}
 use Rattle.sources.specs.Faults.{of_lines}
-use Rattle.conditionals.specs.Shape.{Shape, nil, shaped, ends, begun}
+use Rattle.conditionals.specs.Shape.{Shape, shaped, ends, begun}
 
 abbrev pub read_line : Bool → Bool → ℕ → Shape → Bytes → Result (Line × Shape) Refusal
 read_line last c n s l =

@@ -1,6 +1,5 @@
 -- What the lines read so far leave open. Assumes nothing.
 --   Shape            the chains that are open, innermost first, each with whether its `else` was read; the number of blocks; the names with an entry
---   nil xs           xs is empty
 --   has x ns         x is one of the names
 --   opened n s       an `if` kind: a chain with its first block
 --   furthered n b cs s  a further block of the innermost of the chains cs; b tells whether it is the `else`
@@ -13,6 +12,7 @@ use Rattle.std.specs.Prelude.{ℕ, suc, Bool, true, false, cond, not, ◌&&◌, 
 use Rattle.faults.specs.declared.Refusal.{Refusal}
 use Rattle.text.specs.Tokens.{Bytes}
 use Rattle.names.specs.Names.{index_of}
+use Rattle.sources.specs.Lines.{nil}
 use Rattle.sources.specs.Classified.{Test, given, otherwise, Line, plain, name, if, elif, endif, then, refuse}
 use Rattle.sources.specs.Faults.{of_conditionals}
 
@@ -20,10 +20,6 @@ pub record Shape : Type 0 where
   pub chains : List Bool
   pub blocks : ℕ
   pub names : List Bytes
-
-abbrev pub nil : {A : Type 0} → List A → Bool
-nil [] = true
-nil (x ∷ xs) = false
 
 abbrev pub has : Bytes → List Bytes → Bool
 has x ns = is_some (index_of ns x)

@@ -3,16 +3,19 @@
 // Promises: behind every line the open chains, the number of blocks and the names with an entry, or the line's refusal, and then nothing is changed.
 #![tactic(auto)]
 
-ghost use Rattle.std.specs.Prelude.{◌≡◌, ◌≤◌, true, not, ◌&&◌, length, Ok};
+ghost use Rattle.std.specs.Prelude.{◌≡◌, ◌≤◌, true, length, if◌then◌else◌, Ok, Err, nat_le};
 ghost use Rattle.names.specs.Names.{texts};
-ghost use Rattle.sources.specs.Classified.{Line as SourceLine};
+ghost use Rattle.sources.specs.declared.fault.ConditionalFault.TheVariants.{TooManyBlocks, ChainOpen};
+ghost use Rattle.sources.specs.Classified.{Line as Defined};
 ghost use Rattle.sources.specs.Answers.{shown, seen};
-ghost use Rattle.conditionals.specs.Shape.{nil, shaped, opened, furthered, ended, entered, ends};
+ghost use Rattle.conditionals.specs.Shape.{shaped, opened, furthered, ended, entered, ends};
 ghost use Rattle.conditionals.specs.Answers.{shape_of, beginning, start_of, shown_shape, Proper, Reads};
 
+use arrayvec::ArrayVec;
 use names::index_of;
 use sources::fault::ConditionalFault;
 use sources::line::Line;
+use sources::place::SourceLine;
 
 // How many chains may be open at once.
 pub const MAX_CHAINS: usize = 32;
@@ -23,15 +26,14 @@ pub const MAX_BLOCKS: usize = 255;
 // How many names may have an entry, the switches among them.
 pub const MAX_NAMES: usize = 64;
 
-// What the lines read so far leave open. The first `depth` of `else_read` tell of each open chain, outermost first, whether its `else` was read;
-// the first `count` of `names` are the names with an entry, the switches' first. Each count is cut to its array where it is read, so that no value is out of range.
+// What the lines read so far leave open.
 #[derive(Drop)]
 pub struct Shape<'a> {
-    else_read: [bool; MAX_CHAINS],
-    depth: usize,
+    // of each open chain, outermost first: was its `else` read?
+    chains: ArrayVec<bool, MAX_CHAINS>,
     blocks: u8,
-    names: [&'a [u8]; MAX_NAMES],
-    count: usize,
+    // the names with an entry, the switches' first
+    names: ArrayVec<&'a [u8], MAX_NAMES>,
 }
 
 impl<'a> Shape<'a> {
@@ -39,19 +41,13 @@ impl<'a> Shape<'a> {
     pub fn new(switches: &[&'a [u8]]) -> Option<Shape<'a>>
         ensures { start_of result ≡ beginning (texts switches.now) }
     {
-        if switches.len() > MAX_NAMES {
+        let Ok(names) = ArrayVec::try_from(switches) else {
             return None;
-        }
-        let mut names: [&'a [u8]; MAX_NAMES] = [b""; MAX_NAMES];
-        for (i, name) in switches.iter().enumerate() {
-            names[i] = name;
-        }
+        };
         Some(Shape {
-            else_read: [false; MAX_CHAINS],
-            depth: 0,
+            chains: ArrayVec::new(),
             blocks: 0,
             names,
-            count: switches.len(),
         })
     }
 
@@ -60,9 +56,7 @@ impl<'a> Shape<'a> {
         ensures value { texts result.now ≡ (shape_of self.now).names }
         ensures bound { length result.now ≤ 64 }
     {
-        let all: &[&'a [u8]] = &self.names;
-        let end = self.count.min(all.len());
-        &all[0..end]
+        self.names.as_slice()
     }
 
     // How many blocks were opened.
@@ -78,127 +72,99 @@ impl<'a> Shape<'a> {
         ensures value { result ≡ length (shape_of self.now).chains }
         ensures bound { result ≤ 32 }
     {
-        self.depth.min(MAX_CHAINS)
+        self.chains.len()
     }
 
-    // Is a chain open behind the source, if this was its last line?
-    fn left_open(&self, last: bool) -> bool
-        ensures { result ≡ (last && not (nil (shape_of self.now).chains)) }
+    // A line that opens and ends nothing. A chain that is open behind the source's last line is refused.
+    fn pass(&self, line: &SourceLine<'_>) -> Result<(), ConditionalFault>
+        ensures { Reads self.now self.now (ends line.now.last line.now.number (Ok (shape_of self.now))) result }
     {
-        last && self.open_chains() > 0
+        if line.last && !self.chains.is_empty() {
+            return Err(ConditionalFault::ChainOpen { line: line.number });
+        }
+        Ok(())
     }
 
-    // A line that opens and ends nothing.
-    fn pass(&self, number: usize, last: bool) -> Result<(), ConditionalFault>
-        ensures { Reads self.now self.now (ends last number (Ok (shape_of self.now))) result }
+    // May one more block open on the line? Behind it, its chain is open.
+    fn check_block(&self, line: &SourceLine<'_>) -> Result<(), ConditionalFault>
+        ensures { result ≡ (if nat_le 255 self.now.blocks then Err (TooManyBlocks line.now.number) else (if line.now.last then Err (ChainOpen line.now.number) else Ok tt)) }
     {
-        if self.left_open(last) {
-            return Err(ConditionalFault::ChainOpen { line: number });
+        if self.blocks() >= MAX_BLOCKS {
+            return Err(ConditionalFault::TooManyBlocks { line: line.number });
+        }
+        if line.last {
+            return Err(ConditionalFault::ChainOpen { line: line.number });
         }
         Ok(())
     }
 
     // An `if` kind opens a chain and its first block.
-    fn open_chain(&mut self, number: usize, last: bool) -> Result<(), ConditionalFault>
-        ensures { Reads self.old self.new (ends last number (opened number (shape_of self.old))) result }
+    fn open_chain(&mut self, line: &SourceLine<'_>) -> Result<(), ConditionalFault>
+        ensures { Reads self.old self.new (ends line.now.last line.now.number (opened line.now.number (shape_of self.old))) result }
     {
-        let depth = self.open_chains();
-        if depth >= MAX_CHAINS {
-            return Err(ConditionalFault::TooManyChains { line: number });
+        if self.chains.is_full() {
+            return Err(ConditionalFault::TooManyChains { line: line.number });
         }
-        if self.blocks() >= MAX_BLOCKS {
-            return Err(ConditionalFault::TooManyBlocks { line: number });
-        }
-        if last {
-            return Err(ConditionalFault::ChainOpen { line: number });
-        }
-        self.else_read[depth] = false;
-        self.depth = depth + 1;
+        self.check_block(line)?;
+        self.chains.push(false);
         self.blocks += 1;
         Ok(())
     }
 
     // An `elif` kind or the `else` opens a further block of the innermost chain.
-    fn open_block(
-        &mut self,
-        is_else: bool,
-        number: usize,
-        last: bool,
-    ) -> Result<(), ConditionalFault>
-        ensures { Reads self.old self.new (ends last number (furthered number is_else (shape_of self.old).chains (shape_of self.old))) result }
+    fn open_block(&mut self, is_else: bool, line: &SourceLine<'_>) -> Result<(), ConditionalFault>
+        ensures { Reads self.old self.new (ends line.now.last line.now.number (furthered line.now.number is_else (shape_of self.old).chains (shape_of self.old))) result }
     {
-        let depth = self.open_chains();
-        if depth == 0 {
-            return Err(ConditionalFault::OutsideChain { line: number });
-        }
-        let top = depth - 1;
-        if self.else_read[top] {
-            return Err(ConditionalFault::OutsideChain { line: number });
-        }
-        if self.blocks() >= MAX_BLOCKS {
-            return Err(ConditionalFault::TooManyBlocks { line: number });
-        }
-        if last {
-            return Err(ConditionalFault::ChainOpen { line: number });
-        }
-        self.else_read[top] = is_else;
+        let Some(false) = self.chains.last().copied() else {
+            return Err(ConditionalFault::OutsideChain { line: line.number });
+        };
+        self.check_block(line)?;
+        let _ = self.chains.pop();
+        self.chains.push(is_else);
         self.blocks += 1;
         Ok(())
     }
 
     // `endif` ends the innermost chain.
-    fn end_chain(&mut self, number: usize, last: bool) -> Result<(), ConditionalFault>
-        ensures { Reads self.old self.new (ends last number (ended number (shape_of self.old).chains (shape_of self.old))) result }
+    fn end_chain(&mut self, line: &SourceLine<'_>) -> Result<(), ConditionalFault>
+        ensures { Reads self.old self.new (ends line.now.last line.now.number (ended line.now.number (shape_of self.old).chains (shape_of self.old))) result }
     {
-        let depth = self.open_chains();
-        if depth == 0 {
-            return Err(ConditionalFault::OutsideChain { line: number });
+        if line.last && self.open_chains() > 1 {
+            return Err(ConditionalFault::ChainOpen { line: line.number });
         }
-        if last && depth > 1 {
-            return Err(ConditionalFault::ChainOpen { line: number });
+        match self.chains.pop() {
+            Some(_) => Ok(()),
+            None => Err(ConditionalFault::OutsideChain { line: line.number }),
         }
-        self.depth = depth - 1;
-        Ok(())
     }
 
     // `define` makes an entry for a name that has none.
-    fn enter(&mut self, name: &'a [u8], number: usize, last: bool) -> Result<(), ConditionalFault>
-        ensures { Reads self.old self.new (ends last number (entered number name.now true (shape_of self.old))) result }
+    fn enter(&mut self, name: &'a [u8], line: &SourceLine<'_>) -> Result<(), ConditionalFault>
+        ensures { Reads self.old self.new (ends line.now.last line.now.number (entered line.now.number name.now true (shape_of self.old))) result }
     {
-        let known = self.names();
-        let count = known.len();
-        if index_of(known, name).is_some() {
-            return self.pass(number, last);
+        if index_of(&self.names, name).is_some() {
+            return self.pass(line);
         }
-        if count >= MAX_NAMES {
-            return Err(ConditionalFault::TooManyNames { line: number });
+        if self.names.is_full() {
+            return Err(ConditionalFault::TooManyNames { line: line.number });
         }
-        if self.left_open(last) {
-            return Err(ConditionalFault::ChainOpen { line: number });
-        }
-        self.names[count] = name;
-        self.count = count + 1;
+        self.pass(line)?;
+        self.names.push(name);
         Ok(())
     }
 
-    // Reads a line, or refuses it and stays as it is.
-    pub fn read(
-        &mut self,
-        line: &Line<'a>,
-        number: usize,
-        last: bool,
-    ) -> Result<(), ConditionalFault>
-        ensures outcome { Reads self.old self.new (ends last number (shown_shape number (shape_of self.old) (shown line.now))) result }
-        ensures lines { (x : SourceLine) → Proper x → shown line.now ≡ seen x → Reads self.old self.new (ends last number (shaped number (shape_of self.old) x)) result }
+    // Reads a line that stands at that place, or refuses it and stays as it is.
+    pub fn read(&mut self, line: &Line<'a>, at: &SourceLine<'_>) -> Result<(), ConditionalFault>
+        ensures outcome { Reads self.old self.new (ends at.now.last at.now.number (shown_shape at.now.number (shape_of self.old) (shown line.now))) result }
+        ensures lines { (x : Defined) → Proper x → shown line.now ≡ seen x → Reads self.old self.new (ends at.now.last at.now.number (shaped at.now.number (shape_of self.old) x)) result }
     {
         match line {
-            Line::Plain => self.pass(number, last),
-            Line::Define(name) => self.enter(name, number, last),
-            Line::Undef(_) => self.pass(number, last),
-            Line::If(_) => self.open_chain(number, last),
-            Line::Elif(_) => self.open_block(false, number, last),
-            Line::Else => self.open_block(true, number, last),
-            Line::Endif => self.end_chain(number, last),
+            Line::Plain | Line::Undef(_) => self.pass(at),
+            Line::Define(name) => self.enter(name, at),
+            Line::If(_) => self.open_chain(at),
+            Line::Elif(_) => self.open_block(false, at),
+            Line::Else => self.open_block(true, at),
+            Line::Endif => self.end_chain(at),
         }
     }
 }

@@ -1,9 +1,13 @@
 // Random lists of operations on small diagram stores, against truth tables that are worked out by trying every configuration.
-use diagrams::make;
+use diagrams::Diagrams;
+use dice::Dice;
 use std::alloc::Global;
+use std::array;
 use std::process::Abort;
 use std::test::Fail;
+use stores::connective::Connective;
 use stores::fault::StoreFault;
+use stores::in_words::InWords;
 use stores::{Mark, Store};
 
 const MOST_SWITCHES: u32 = 10;
@@ -30,10 +34,15 @@ fn add(table: &mut Table, k: u32) {
     table[(k as usize / 64) % TABLE_WORDS] |= 1 << (k % 64);
 }
 
-fn everything(n: u32) -> Table {
+// The configurations of n switches that pass a test.
+fn those<F: Fn(u32) -> bool>(n: u32, test: F) -> Table
+    requires { F.IsAlwaysCallable test }
+{
     let mut table = [0; TABLE_WORDS];
     for k in 0..configurations(n) {
-        add(&mut table, k);
+        if test(k) {
+            add(&mut table, k);
+        }
     }
     table
 }
@@ -41,42 +50,19 @@ fn everything(n: u32) -> Table {
 // The set whose test of a configuration is the table's with switch `i` put on or off.
 fn fixed(table: &Table, n: u32, i: u32, on: bool) -> Table {
     let switch = 1u32 << i.min(31);
-    let mut side = [0; TABLE_WORDS];
-    for k in 0..configurations(n) {
-        let asked = if on { k | switch } else { k & !switch };
-        if has(table, asked) {
-            add(&mut side, k);
-        }
-    }
-    side
+    those(n, |k| has(table, if on { k | switch } else { k & !switch }))
 }
 
 fn with_switch(n: u32, i: u32) -> Table {
-    let mut table = [0; TABLE_WORDS];
-    for k in 0..configurations(n) {
-        if (k >> i.min(31)) & 1 == 1 {
-            add(&mut table, k);
-        }
-    }
-    table
+    those(n, |k| (k >> i.min(31)) & 1 == 1)
 }
 
 fn lowest(table: &Table) -> Option<u32> {
-    for k in 0..configurations(MOST_SWITCHES) {
-        if has(table, k) {
-            return Some(k);
-        }
-    }
-    None
+    (0..configurations(MOST_SWITCHES)).find(|k| has(table, *k))
 }
 
 fn place_of(tables: &[Table], table: &Table) -> Option<usize> {
-    for (place, other) in tables.iter().enumerate() {
-        if other == table {
-            return Some(place);
-        }
-    }
-    None
+    tables.iter().position(|other| other == table)
 }
 
 // Adds a table that is not there yet.
@@ -120,13 +106,6 @@ fn lacking(heap: Global, n: u32, held: &[Table], set: Table) -> Result<Vec<Table
 }
 
 #[derive(Clone, Copy)]
-enum Connective {
-    Both,
-    Either,
-    Less,
-}
-
-#[derive(Clone, Copy)]
 enum Act {
     Switch(u32),
     Join(Connective, u32, u32),
@@ -139,15 +118,11 @@ enum Act {
 }
 
 fn joined(connective: Connective, a: &Table, b: &Table) -> Table {
-    let mut table = [0; TABLE_WORDS];
-    for i in 0..TABLE_WORDS {
-        table[i] = match connective {
-            Connective::Both => a[i] & b[i],
-            Connective::Either => a[i] | b[i],
-            Connective::Less => a[i] & !b[i],
-        };
-    }
-    table
+    array::from_fn(|i| match connective {
+        Connective::Both => a[i] & b[i],
+        Connective::Either => a[i] | b[i],
+        Connective::Less => a[i] & !b[i],
+    })
 }
 
 // The open marks: the newer one is open only if the older one is.
@@ -156,29 +131,19 @@ struct Marks {
     newer: Option<Mark>,
 }
 
-fn release<S: Store>(store: &mut S, mark: Option<Mark>)
-    requires { S.valid store.old }
-    ensures { S.valid store.new }
-{
-    match mark {
-        Some(mark) => store.release(mark),
-        None => {}
+fn release<S: Store>(store: &mut S, mark: Option<Mark>) {
+    if let Some(mark) = mark {
+        store.release(mark);
     }
 }
 
-fn keep<S: Store>(store: &mut S, mark: Option<Mark>)
-    requires { S.valid store.old }
-    ensures { S.valid store.new }
-{
-    match mark {
-        Some(mark) => store.keep(mark),
-        None => {}
+fn keep<S: Store>(store: &mut S, mark: Option<Mark>) {
+    if let Some(mark) = mark {
+        store.keep(mark);
     }
 }
 
-fn open<S: Store>(store: &S, marks: Marks) -> Marks
-    requires { S.valid store.now }
-{
+fn open<S: Store>(store: &S, marks: Marks) -> Marks {
     let Marks { older, newer } = marks;
     match (older, newer) {
         (None, newer) => Marks {
@@ -208,10 +173,7 @@ fn newest(marks: Marks) -> (Option<Mark>, Marks) {
     }
 }
 
-fn change_marks<S: Store>(store: &mut S, marks: Marks, act: Act) -> Marks
-    requires { S.valid store.old }
-    ensures { S.valid store.new }
-{
+fn change_marks<S: Store>(store: &mut S, marks: Marks, act: Act) -> Marks {
     match act {
         Act::Mark => open(store, marks),
         Act::Release => {
@@ -238,24 +200,16 @@ fn change_marks<S: Store>(store: &mut S, marks: Marks, act: Act) -> Marks
 }
 
 // What the store answers to an operation; 0 to a change of marks.
-fn ask<S: Store>(store: &mut S, act: Act) -> Result<u32, StoreFault>
-    requires { S.valid store.old }
-    ensures { S.valid store.new }
-{
+fn ask<S: Store>(store: &mut S, act: Act) -> Result<u32, StoreFault> {
     match act {
         Act::Switch(i) => store.switch(i),
-        Act::Join(Connective::Both, a, b) => store.both(a, b),
-        Act::Join(Connective::Either, a, b) => store.either(a, b),
-        Act::Join(Connective::Less, a, b) => store.less(a, b),
+        Act::Join(connective, a, b) => store.join(connective, a, b),
         _ => Ok(0),
     }
 }
 
 // The answer to the last act, after all before it.
-fn replay<S: Store>(store: &mut S, acts: &[Act]) -> Result<u32, StoreFault>
-    requires { S.valid store.old }
-    ensures { S.valid store.new }
-{
+fn replay<S: Store>(store: &mut S, acts: &[Act]) -> Result<u32, StoreFault> {
     let mut answer = Ok(0);
     let mut marks = Marks {
         older: None,
@@ -271,57 +225,40 @@ fn replay<S: Store>(store: &mut S, acts: &[Act]) -> Result<u32, StoreFault>
     answer
 }
 
-// Xorshift of 32 bits.
-#[derive(Drop)]
-struct Dice {
-    state: u32,
+// A number that is held, most often a late one; now and then one that is not held.
+fn number(dice: &mut Dice, held: u32) -> u32 {
+    match dice.roll(16) {
+        0 => held.saturating_add(dice.roll(3)),
+        1..=4 => dice.roll(held),
+        _ => held
+            .saturating_sub(1)
+            .saturating_sub(dice.roll(held.min(12))),
+    }
 }
 
-impl Dice {
-    fn roll(&mut self, sides: u32) -> u32 {
-        let mut x = self.state;
-        x ^= x << 13;
-        x ^= x >> 17;
-        x ^= x << 5;
-        self.state = x;
-        x.checked_rem(sides).unwrap_or(0)
-    }
+// Room for few cells or for some dozens.
+fn room(dice: &mut Dice) -> u32 {
+    dice.roll(20)
+        .saturating_add(dice.roll(60))
+        .saturating_add(2)
+}
 
-    // A number that is held, most often a late one; now and then one that is not held.
-    fn number(&mut self, held: u32) -> u32 {
-        match self.roll(16) {
-            0 => held.saturating_add(self.roll(3)),
-            1..=4 => self.roll(held),
-            _ => held
-                .saturating_sub(1)
-                .saturating_sub(self.roll(held.min(12))),
-        }
+fn connective(dice: &mut Dice) -> Connective {
+    match dice.roll(3) {
+        0 => Connective::Both,
+        1 => Connective::Either,
+        _ => Connective::Less,
     }
+}
 
-    // Room for few cells or for some dozens.
-    fn capacity(&mut self) -> u32 {
-        self.roll(20)
-            .saturating_add(self.roll(60))
-            .saturating_add(2)
-    }
-
-    fn connective(&mut self) -> Connective {
-        match self.roll(3) {
-            0 => Connective::Both,
-            1 => Connective::Either,
-            _ => Connective::Less,
-        }
-    }
-
-    fn act(&mut self, n: u32, held: u32) -> Act {
-        match self.roll(20) {
-            0..=3 => Act::Switch(self.roll(n.saturating_add(1))),
-            4 => Act::Mark,
-            5 => Act::Release,
-            6 => Act::ReleaseBoth,
-            7 => Act::Keep,
-            _ => Act::Join(self.connective(), self.number(held), self.number(held)),
-        }
+fn any_act(dice: &mut Dice, n: u32, held: u32) -> Act {
+    match dice.roll(20) {
+        0..=3 => Act::Switch(dice.roll(n.saturating_add(1))),
+        4 => Act::Mark,
+        5 => Act::Release,
+        6 => Act::ReleaseBoth,
+        7 => Act::Keep,
+        _ => Act::Join(connective(dice), number(dice, held), number(dice, held)),
     }
 }
 
@@ -363,7 +300,7 @@ fn new_model(heap: Global, n: u32, capacity: usize) -> Result<Model, Fail> {
     Ok(Model {
         n,
         capacity,
-        tables: vec![in heap; [0; TABLE_WORDS], everything(n)]?,
+        tables: vec![in heap; [0; TABLE_WORDS], those(n, |_| true)]?,
         kept: Vec::new(heap),
         older: None,
         newer: None,
@@ -377,6 +314,20 @@ impl Model {
 
     fn table(&self, number: u32) -> Option<Table> {
         self.tables.get(number as usize).copied()
+    }
+
+    // Words for a store of such capacity.
+    fn words(&self, heap: Global) -> Result<Vec<u32>, Fail> {
+        Ok(vec![in heap; 9u32; 1_090 + 4 * self.capacity.min(1_000) + 3]?)
+    }
+
+    // The words that the kept operations leave.
+    fn words_alone(&self, heap: Global) -> Result<Vec<u32>, Fail> {
+        let mut words = self.words(heap)?;
+        let mut store = Diagrams::make(words.as_mut_slice(), self.n)?;
+        let _ = replay(&mut store, self.kept.as_slice());
+        drop(store);
+        Ok(words)
     }
 
     // The set that an operation should answer, or the refusal due to its arguments.
@@ -429,7 +380,7 @@ impl Model {
                 (self.older, self.newer) = (None, None);
             }
             _ => {
-                let newest = if newer.is_some() { newer } else { older };
+                let newest = newer.or(older);
                 if newer.is_none() {
                     self.older = None;
                 }
@@ -443,9 +394,7 @@ impl Model {
 }
 
 // The set that a store holds under a number, asked configuration by configuration.
-fn table_in<S: Store>(store: &S, number: u32) -> Result<Table, StoreFault>
-    requires { S.valid store.now }
-{
+fn table_in<S: Store>(store: &S, number: u32) -> Result<Table, StoreFault> {
     let mut table = [0; TABLE_WORDS];
     for k in 0..configurations(store.switches()) {
         if store.holds(number, k)? {
@@ -455,184 +404,141 @@ fn table_in<S: Store>(store: &S, number: u32) -> Result<Table, StoreFault>
     Ok(table)
 }
 
-// The sets of the numbers from `from` on are exactly the missing ones. They are then held in the model too.
-fn check_new<S: Store>(
-    rt: &impl Abort,
-    store: &S,
-    model: &mut Model,
-    missing: &[Table],
-) -> Result<(), Fail>
-    requires { S.valid store.now }
-{
-    let from = model.held();
-    assert_eq!(rt;
-        store.len() as usize,
-        (from as usize).saturating_add(missing.len())
-    );
-    for number in from..store.len() {
-        let table = table_in(store, number)?;
-        assert!(rt; place_of(missing, &table).is_some());
-        assert!(rt; place_of(model.tables.as_slice(), &table).is_none());
-        model.tables.push(table)?;
-    }
-    Ok(())
-}
-
-// Some numbers, old and new, hold what they should; questions about what is not there are refused.
-fn check_questions<S: Store>(
-    rt: &impl Abort,
-    store: &S,
-    model: &Model,
-    dice: &mut Dice,
-) -> Result<(), Fail>
-    requires { S.valid store.now }
-{
-    let held = model.held();
-    assert_eq!(rt; store.len(), held);
-    for _ in 0..3 {
-        let number = dice.roll(held);
-        let table = table_in(store, number)?;
-        assert!(rt; model.table(number) == Some(table));
-        assert_eq!(rt; store.find(number)?, lowest(&table));
-    }
-    let beyond = held.saturating_add(dice.roll(3));
-    assert_eq!(rt; store.find(beyond), Err(StoreFault::NoNumber));
-    assert_eq!(rt;
-        store.holds(beyond, configurations(model.n)),
-        Err(StoreFault::NoNumber)
-    );
-    assert_eq!(rt;
-        store.holds(dice.roll(held), configurations(model.n)),
-        Err(StoreFault::NoConfiguration)
-    );
-    Ok(())
-}
-
-// Checks an operation's answer, which is accepted exactly if the missing cells find room.
-fn check_answer<S: Store>(
-    rt: &impl Abort,
+// A run of the lists: what it draws from, and what it has met.
+#[derive(Drop)]
+struct Run<'a, R: Abort> {
+    rt: &'a R,
     heap: Global,
-    store: &S,
-    model: &mut Model,
-    act: Act,
-    answer: Result<u32, StoreFault>,
-    tally: &mut Tally,
-) -> Result<(), Fail>
-    requires { S.valid store.now }
-{
-    let table = match model.result(act) {
-        Ok(table) => table,
-        Err(fault) => {
-            if fault == StoreFault::NoSwitch {
-                count(&mut tally.no_switch);
-            } else {
-                count(&mut tally.no_number);
+    dice: Dice,
+    tally: Tally,
+}
+
+impl<R: Abort> Run<'_, R> {
+    // The sets of the numbers from `from` on are exactly the missing ones. They are then held in the model too.
+    fn check_new<S: Store>(
+        &self,
+        store: &S,
+        model: &mut Model,
+        missing: &[Table],
+    ) -> Result<(), Fail> {
+        let from = model.held();
+        assert_eq!(self.rt;
+            store.len() as usize,
+            (from as usize).saturating_add(missing.len())
+        );
+        for number in from..store.len() {
+            let table = table_in(store, number)?;
+            assert!(self.rt; place_of(missing, &table).is_some());
+            assert!(self.rt; place_of(model.tables.as_slice(), &table).is_none());
+            model.tables.push(table)?;
+        }
+        Ok(())
+    }
+
+    // Some numbers, old and new, hold what they should; questions about what is not there are refused.
+    fn check_questions<S: Store>(&mut self, store: &S, model: &Model) -> Result<(), Fail> {
+        let held = model.held();
+        assert_eq!(self.rt; store.len(), held);
+        for _ in 0..3 {
+            let number = self.dice.roll(held);
+            let table = table_in(store, number)?;
+            assert!(self.rt; model.table(number) == Some(table));
+            assert_eq!(self.rt; store.find(number)?, lowest(&table));
+        }
+        let beyond = held.saturating_add(self.dice.roll(3));
+        assert_eq!(self.rt; store.find(beyond), Err(StoreFault::NoNumber));
+        assert_eq!(self.rt;
+            store.holds(beyond, configurations(model.n)),
+            Err(StoreFault::NoNumber)
+        );
+        assert_eq!(self.rt;
+            store.holds(self.dice.roll(held), configurations(model.n)),
+            Err(StoreFault::NoConfiguration)
+        );
+        Ok(())
+    }
+
+    // Checks an operation's answer, which is accepted exactly if the missing cells find room.
+    fn check_answer<S: Store>(
+        &mut self,
+        store: &S,
+        model: &mut Model,
+        act: Act,
+        answer: Result<u32, StoreFault>,
+    ) -> Result<(), Fail> {
+        let table = match model.result(act) {
+            Ok(table) => table,
+            Err(fault) => {
+                if fault == StoreFault::NoSwitch {
+                    count(&mut self.tally.no_switch);
+                } else {
+                    count(&mut self.tally.no_number);
+                }
+                assert_eq!(self.rt; answer, Err(fault));
+                return Ok(());
             }
-            assert_eq!(rt; answer, Err(fault));
+        };
+        let missing = lacking(self.heap, model.n, model.tables.as_slice(), table)?;
+        if missing.len() > model.capacity.saturating_sub(model.tables.len()) {
+            count(&mut self.tally.full);
+            assert_eq!(self.rt; answer, Err(StoreFault::Full));
             return Ok(());
         }
-    };
-    let missing = lacking(heap, model.n, model.tables.as_slice(), table)?;
-    if missing.len() > model.capacity.saturating_sub(model.tables.len()) {
-        count(&mut tally.full);
-        assert_eq!(rt; answer, Err(StoreFault::Full));
-        return Ok(());
+        if missing.is_empty() {
+            count(&mut self.tally.found);
+        } else {
+            count(&mut self.tally.grown);
+        }
+        self.check_new(store, model, missing.as_slice())?;
+        model.kept.push(act)?;
+        assert_eq!(self.rt;
+            place_of(model.tables.as_slice(), &table),
+            Some(answer? as usize)
+        );
+        Ok(())
     }
-    if missing.is_empty() {
-        count(&mut tally.found);
-    } else {
-        count(&mut tally.grown);
-    }
-    check_new(rt, store, model, missing.as_slice())?;
-    model.kept.push(act)?;
-    assert_eq!(rt;
-        place_of(model.tables.as_slice(), &table),
-        Some(answer? as usize)
-    );
-    Ok(())
-}
 
-fn check_act<S: Store>(
-    rt: &impl Abort,
-    heap: Global,
-    store: &S,
-    model: &mut Model,
-    act: Act,
-    answer: Result<u32, StoreFault>,
-    tally: &mut Tally,
-) -> Result<(), Fail>
-    requires { S.valid store.now }
-{
-    match act {
-        Act::Switch(_) | Act::Join(_, _, _) => check_answer(
-            rt, heap, store, model, act, answer, tally,
-        ),
-        _ => {
-            model.change_marks(act, tally);
-            Ok(())
+    fn check_act<S: Store>(
+        &mut self,
+        store: &S,
+        model: &mut Model,
+        act: Act,
+        answer: Result<u32, StoreFault>,
+    ) -> Result<(), Fail> {
+        match act {
+            Act::Switch(_) | Act::Join(..) => self.check_answer(store, model, act, answer),
+            _ => {
+                model.change_marks(act, &mut self.tally);
+                Ok(())
+            }
         }
     }
-}
 
-// The words that the acts leave.
-fn words_after(heap: Global, n: u32, words: usize, acts: &[Act]) -> Result<Vec<u32>, Fail> {
-    let mut words = vec![in heap; 9u32; words]?;
-    let mut store = make(words.as_mut_slice(), n)?;
-    let _ = replay(&mut store, acts);
-    drop(store);
-    Ok(words)
-}
-
-// Does the acts on a new store and checks what the last one leads to. The answer is the words that they leave.
-fn check_last(
-    rt: &impl Abort,
-    heap: Global,
-    words: usize,
-    model: &mut Model,
-    acts: &[Act],
-    last: Act,
-    dice: &mut Dice,
-    tally: &mut Tally,
-) -> Result<Vec<u32>, Fail> {
-    let mut words = vec![in heap; 9u32; words]?;
-    let mut store = make(words.as_mut_slice(), model.n)?;
-    let answer = replay(&mut store, acts);
-    check_act(rt, heap, &store, model, last, answer, tally)?;
-    check_questions(rt, &store, model, dice)?;
-    drop(store);
-    Ok(words)
-}
-
-// One list of acts. After each of them every word is as after the kept operations alone, so a refusal and a release leave no trace.
-fn check_list(
-    rt: &impl Abort,
-    heap: Global,
-    n: u32,
-    capacity: u32,
-    dice: &mut Dice,
-    tally: &mut Tally,
-) -> Result<(), Fail> {
-    let words = 1_090 + 4 * capacity.min(1_000) as usize + 3;
-    let mut model = new_model(heap, n, capacity as usize)?;
-    let mut acts = Vec::new(heap);
-    for _ in 0..ACTS {
-        let act = dice.act(n, model.held());
-        acts.push(act)?;
-        let after = check_last(
-            rt,
-            heap,
-            words,
-            &mut model,
-            acts.as_slice(),
-            act,
-            dice,
-            tally,
-        )?;
-        let alone = words_after(heap, n, words, model.kept.as_slice())?;
-        assert!(rt; after == alone);
+    // Does the acts on a new store and checks what the last one leads to. The answer is the words that they leave.
+    fn check_last(&mut self, model: &mut Model, acts: &[Act], last: Act) -> Result<Vec<u32>, Fail> {
+        let mut words = model.words(self.heap)?;
+        let mut store = Diagrams::make(words.as_mut_slice(), model.n)?;
+        let answer = replay(&mut store, acts);
+        self.check_act(&store, model, last, answer)?;
+        self.check_questions(&store, model)?;
+        drop(store);
+        Ok(words)
     }
-    count(&mut tally.cases);
-    Ok(())
+
+    // One list of acts. After each of them every word is as after the kept operations alone, so a refusal and a release leave no trace.
+    fn check_list(&mut self, n: u32, capacity: u32) -> Result<(), Fail> {
+        let mut model = new_model(self.heap, n, capacity as usize)?;
+        let mut acts = Vec::new(self.heap);
+        for _ in 0..ACTS {
+            let act = any_act(&mut self.dice, n, model.held());
+            acts.push(act)?;
+            let after = self.check_last(&mut model, acts.as_slice(), act)?;
+            let alone = model.words_alone(self.heap)?;
+            assert!(self.rt; after == alone);
+        }
+        count(&mut self.tally.cases);
+        Ok(())
+    }
 }
 
 fn report(rt: &HostRuntime, tally: &Tally) -> Result<(), Fail> {
@@ -646,25 +552,30 @@ fn report(rt: &HostRuntime, tally: &Tally) -> Result<(), Fail> {
 
 #[test]
 fn agrees_with_truth_tables(rt: HostRuntime) -> Result<(), Fail> {
-    let mut dice = Dice {
-        state: 2_463_534_242,
-    };
-    let mut tally = Tally {
-        cases: 0,
-        grown: 0,
-        found: 0,
-        no_switch: 0,
-        no_number: 0,
-        full: 0,
-        released: 0,
+    let mut run = Run {
+        rt: &rt,
+        heap: rt.alloc(),
+        dice: Dice {
+            state: 2_463_534_242,
+        },
+        tally: Tally {
+            cases: 0,
+            grown: 0,
+            found: 0,
+            no_switch: 0,
+            no_number: 0,
+            full: 0,
+            released: 0,
+        },
     };
     for n in 0..=MOST_SWITCHES {
         for _ in 0..LISTS {
-            let capacity = dice.capacity();
-            check_list(&rt, rt.alloc(), n, capacity, &mut dice, &mut tally)?;
+            let capacity = room(&mut run.dice);
+            run.check_list(n, capacity)?;
         }
     }
-    report(&rt, &tally)?;
+    report(&rt, &run.tally)?;
+    let tally = &run.tally;
     assert!(rt; tally.grown >= 100 && tally.found >= 100 && tally.full >= 100);
     assert!(rt; tally.no_switch >= 50 && tally.no_number >= 100 && tally.released >= 50);
     Ok(())

@@ -1,12 +1,13 @@
-use diagrams::{make, prepare};
+use diagrams::Diagrams;
 use std::test::Fail;
 use stores::Store;
 use stores::fault::StoreFault;
+use stores::in_words::InWords;
 
 #[test]
 fn two_cells(rt: HostRuntime) -> Result<(), Fail> {
     let mut words = [9; 1_099];
-    prepare(&mut words, 24)?;
+    Diagrams::prepare(&mut words, 24)?;
     assert!(rt; words[0] == 24 && words[1] == 2 && words[2] == 0 && words[1_089] == 0);
     assert!(rt; words[1_090] == 32 && words[1_091] == 0 && words[1_092] == 0 && words[1_093] == 0);
     assert!(rt; words[1_094] == 32 && words[1_095] == 1 && words[1_096] == 1 && words[1_097] == 0);
@@ -17,21 +18,27 @@ fn two_cells(rt: HostRuntime) -> Result<(), Fail> {
 #[test]
 fn too_many_switches(rt: HostRuntime) {
     let mut words = [9; 1];
-    assert_eq!(rt; prepare(&mut words, 25), Err(StoreFault::TooManySwitches));
+    assert_eq!(rt;
+        Diagrams::prepare(&mut words, 25),
+        Err(StoreFault::TooManySwitches)
+    );
     assert_eq!(rt; words, [9]);
 }
 
 #[test]
 fn one_word_short(rt: HostRuntime) {
     let mut words = [9; 1_097];
-    assert_eq!(rt; prepare(&mut words, 24), Err(StoreFault::TooSmall));
+    assert_eq!(rt;
+        Diagrams::prepare(&mut words, 24),
+        Err(StoreFault::TooSmall)
+    );
     assert!(rt; words[0] == 9 && words[1_096] == 9);
 }
 
 #[test]
 fn one_set_has_one_number(rt: HostRuntime) -> Result<(), Fail> {
     let mut words = [9; 1_110];
-    let mut store = make(&mut words, 2)?;
+    let mut store = Diagrams::make(&mut words, 2)?;
     let on = store.switch(1)?;
     let off = store.less(1, on)?;
     let both = store.both(on, off);
@@ -51,7 +58,7 @@ fn one_set_has_one_number(rt: HostRuntime) -> Result<(), Fail> {
 #[test]
 fn full_store_refuses(rt: HostRuntime) -> Result<(), Fail> {
     let mut words = [9; 1_106];
-    let mut store = make(&mut words, 2)?;
+    let mut store = Diagrams::make(&mut words, 2)?;
     let high = store.switch(1)?;
     let low = store.switch(0)?;
     let refused = store.both(high, low);
@@ -66,7 +73,7 @@ fn full_store_refuses(rt: HostRuntime) -> Result<(), Fail> {
 #[test]
 fn release_zeroes(rt: HostRuntime) -> Result<(), Fail> {
     let mut words = [9; 1_106];
-    let mut store = make(&mut words, 2)?;
+    let mut store = Diagrams::make(&mut words, 2)?;
     let on = store.switch(1)?;
     let mark = store.mark();
     let made = store.less(1, on);

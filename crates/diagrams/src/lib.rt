@@ -7,7 +7,7 @@ ghost use Rattle.cells.specs.Words.{Valid};
 
 use cells::layout::{ALL, COUNT_WORD, EMPTY, FLOOR, N_WORD};
 use cells::pool::{cut_cells, switch_cell};
-use cells::questions::{holds_cell, lowest_cell};
+use cells::questions::Cells;
 use operations::apply::operate;
 use stores::Store;
 use stores::connective::Connective;
@@ -18,6 +18,17 @@ use stores::in_words::InWords;
 pub struct Diagrams<'a> {
     words: &'a mut [u32],
     ghost valid: { Valid words.now },
+}
+
+impl Diagrams<'_> {
+    ghost use Rattle.std.specs.Prelude.{◌≡◌};
+
+    // The cells that are held.
+    fn cells(&self) -> Cells<'_>
+        ensures { result.words.now ≡ self.now.words.now }
+    {
+        Cells { words: self.words }
+    }
 }
 
 impl<'a> Store for Diagrams<'a> {
@@ -69,14 +80,14 @@ impl<'a> Store for Diagrams<'a> {
         if k >= 1 << self.switches() {
             return Err(StoreFault::NoConfiguration);
         }
-        Ok(holds_cell(self.words, a, k))
+        Ok(self.cells().holds(a, k))
     }
 
     fn find(&self, a: u32) -> Result<Option<u32>, StoreFault> {
         if a >= self.len() {
             return Err(StoreFault::NoNumber);
         }
-        Ok(lowest_cell(self.words, a))
+        Ok(self.cells().lowest(a))
     }
 
     fn cut(&mut self, to: u32) {

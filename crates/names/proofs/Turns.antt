@@ -35,7 +35,7 @@ index_on (r ∷ ns) x i = go (alike x r) (index_on ns x (i + 1))
 pub index_is : (ns : List Part) (x : List ℕ) → position (alike x) ns ≡ index_of (texts ns) x
 index_is ns x = sym (index_on ns x 0 ∙ ap (λ (n : ℕ). cond (ltb (position_or_len (alike x) ns) (length ns)) (Some n) None) (let z : 0 + position_or_len (alike x) ns ≡ position_or_len (alike x) ns = omega arith in z))
 
-texts_append : (a b : List Part) → texts (a ++ b) ≡ texts a ++ texts b
+pub texts_append : (a b : List Part) → texts (a ++ b) ≡ texts a ++ texts b
 texts_append [] b = refl
 texts_append (r ∷ a) b = ap (λ (l : List (List ℕ)). r.now ∷ l) (texts_append a b)
 

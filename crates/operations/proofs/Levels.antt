@@ -1,8 +1,8 @@
 -- The levels and sides of cells, read from the words.
-use Rattle.std.proofs.Common.{◌≡◌, ℕ, zero, suc, ◌+◌, ◌*◌, ◌<◌, ◌≤◌, eqb, ◌≢◌, List, length, get_or, sym, refl, ap, ◌∙◌, ⊎_elim, arith}
+use Rattle.std.proofs.Common.{◌≡◌, ℕ, zero, suc, ◌+◌, ◌<◌, ◌≤◌, eqb, ◌≢◌, List, length, sym, refl, ap, ◌∙◌, ⊎_elim, arith}
 use Rattle.std.proofs.lemmas.Bool.{eq-eqb, ne_eqb, cases_eq, cond-true, cond-false}
 use Rattle.cells.specs.Cells.{Cell, at, level, Ordered, Reduced, low_at, high_at}
-use Rattle.cells.specs.Words.{switches, count, cells_of, WellFormed}
+use Rattle.cells.specs.Words.{switches, count, cell_at, cells_of, WellFormed}
 use Rattle.cells.proofs.Mean.{level_cell}
 use Rattle.cells.proofs.Held.{level_suc, level_within}
 use Rattle.cells.proofs.Chained.{length_cells, at_cells}
@@ -13,24 +13,24 @@ level_end cs zero h = refl
 level_end cs (suc zero) h = refl
 level_end cs (suc (suc m)) h = absurd (omega arith)
 
-pub level_word : (ws : List ℕ) (c : ℕ) → 2 ≤ c → c < count ws → get_or ws (1090 + 4 * c) 0 + 1 ≡ level (cells_of ws) c
-level_word ws c h hc =
-    omega (arith, level_cell (cells_of ws) c h, ap (λ (x : Cell). x.0) (at_cells ws c hc))
+pub level_read : (ws : List ℕ) (c : ℕ) (y : Cell) → y ≡ cell_at ws c → 2 ≤ c → c < count ws → y.0 + 1 ≡ level (cells_of ws) c
+level_read ws c y e h hc =
+    omega (arith, level_cell (cells_of ws) c h, ap (λ (x : Cell). x.0) (at_cells ws c hc ∙ sym e))
 
 pub level_most : (ws : List ℕ) → WellFormed ws → (c : ℕ) → c < count ws → level (cells_of ws) c ≤ switches ws
 level_most ws s c hc = level_within (switches ws) (cells_of ws) s.reduced c (omega (arith, length_cells ws))
 
-pub low_there : (ws : List ℕ) (s c : ℕ) → level (cells_of ws) c ≡ suc s → c < count ws → get_or ws (1090 + 4 * c + 1) 0 ≡ low_at (cells_of ws) s c
+pub low_there : (ws : List ℕ) (s c : ℕ) (y : Cell) → y ≡ cell_at ws c → level (cells_of ws) c ≡ suc s → c < count ws → y.1 ≡ low_at (cells_of ws) s c
 unfolding low_at
-low_there ws s c e hc = sym (cond-true _ _ _ (eq-eqb _ _ e) ∙ ap (λ (x : Cell). x.1) (at_cells ws c hc))
+low_there ws s c y r e hc = sym (cond-true _ _ _ (eq-eqb _ _ e) ∙ ap (λ (x : Cell). x.1) (at_cells ws c hc ∙ sym r))
 
 pub low_past : (ws : List ℕ) (s c : ℕ) → level (cells_of ws) c ≢ suc s → c ≡ low_at (cells_of ws) s c
 unfolding low_at
 low_past ws s c e = sym (cond-false _ _ _ (ne_eqb _ _ e))
 
-pub high_there : (ws : List ℕ) (s c : ℕ) → level (cells_of ws) c ≡ suc s → c < count ws → get_or ws (1090 + 4 * c + 2) 0 ≡ high_at (cells_of ws) s c
+pub high_there : (ws : List ℕ) (s c : ℕ) (y : Cell) → y ≡ cell_at ws c → level (cells_of ws) c ≡ suc s → c < count ws → y.2 ≡ high_at (cells_of ws) s c
 unfolding high_at
-high_there ws s c e hc = sym (cond-true _ _ _ (eq-eqb _ _ e) ∙ ap (λ (x : Cell). x.2) (at_cells ws c hc))
+high_there ws s c y r e hc = sym (cond-true _ _ _ (eq-eqb _ _ e) ∙ ap (λ (x : Cell). x.2) (at_cells ws c hc ∙ sym r))
 
 pub high_past : (ws : List ℕ) (s c : ℕ) → level (cells_of ws) c ≢ suc s → c ≡ high_at (cells_of ws) s c
 unfolding high_at

@@ -7,21 +7,23 @@ ghost use Rattle.operations.specs.Taken.{Parted};
 ghost use Rattle.cells.specs.Words.{WellFormed, Valid, switches, count, cells_of, op_of, StepOutcome, Remembers, Operated};
 
 use super::working::{Working, recall, remember};
-use cells::layout::{ALL, CELL_WORDS, CELLS, COUNT_WORD, EMPTY, FLOOR, HIGH, LOW};
+use cells::layout::{ALL, COUNT_WORD, EMPTY, FLOOR};
+use cells::node::Node;
 use cells::pool::{cut_cells, join_cells};
+use cells::questions::Cells;
 use stores::connective::Connective;
 use stores::fault::StoreFault;
 
 // One more than the switch of a cell, or 0.
-pub(crate) fn level_of(words: &[u32], cell: u32) -> u32
-    requires { (WellFormed words.now) × (cell < count words.now) }
-    ensures is { result ≡ level (cells_of words.now) cell }
-    ensures within { result ≤ switches words.now }
+pub(crate) fn level_of(cells: &Cells<'_>, cell: u32) -> u32
+    requires { cell < count cells.now.words.now }
+    ensures is { result ≡ level (cells_of cells.now.words.now) cell }
+    ensures within { result ≤ switches cells.now.words.now }
 {
     if cell < FLOOR {
         0
     } else {
-        words[CELLS + CELL_WORDS * cell as usize] + 1
+        cells.node(cell).switch + 1
     }
 }
 
@@ -41,16 +43,16 @@ pub(crate) struct Parts {
 }
 
 // The sides of a cell at a switch: itself twice where it asks a lower one.
-pub(crate) fn sides_at(words: &[u32], switch: u32, cell: u32) -> Sided
-    requires { (WellFormed words.now) × ((cell < count words.now) × (switch < switches words.now)) }
-    ensures low { result.low ≡ low_at (cells_of words.now) switch cell }
-    ensures high { result.high ≡ high_at (cells_of words.now) switch cell }
+pub(crate) fn sides_at(cells: &Cells<'_>, switch: u32, cell: u32) -> Sided
+    requires { (cell < count cells.now.words.now) × (switch < switches cells.now.words.now) }
+    ensures low { result.low ≡ low_at (cells_of cells.now.words.now) switch cell }
+    ensures high { result.high ≡ high_at (cells_of cells.now.words.now) switch cell }
 {
-    if level_of(words, cell) == switch + 1 {
-        let place = CELLS + CELL_WORDS * cell as usize;
+    if level_of(cells, cell) == switch + 1 {
+        let node = cells.node(cell);
         Sided {
-            low: words[place + LOW],
-            high: words[place + HIGH],
+            low: node.low,
+            high: node.high,
         }
     } else {
         Sided {
@@ -61,15 +63,15 @@ pub(crate) fn sides_at(words: &[u32], switch: u32, cell: u32) -> Sided
 }
 
 // Two cells, one of which asks a switch, taken apart.
-pub(crate) fn take_apart(words: &[u32], a: u32, b: u32) -> Parts
-    requires { (WellFormed words.now) × ((a < count words.now) × ((b < count words.now) × (2 ≤ b))) }
-    ensures { Parted words.now a b result }
+pub(crate) fn take_apart(cells: &Cells<'_>, a: u32, b: u32) -> Parts
+    requires { (a < count cells.now.words.now) × ((b < count cells.now.words.now) × (2 ≤ b)) }
+    ensures { Parted cells.now.words.now a b result }
 {
-    let switch = level_of(words, a).max(level_of(words, b)) - 1;
+    let switch = level_of(cells, a).max(level_of(cells, b)) - 1;
     Parts {
         switch,
-        a: sides_at(words, switch, a),
-        b: sides_at(words, switch, b),
+        a: sides_at(cells, switch, a),
+        b: sides_at(cells, switch, b),
     }
 }
 
@@ -102,13 +104,19 @@ pub(crate) fn combine(words: &mut [u32], op: Connective, a: u32, b: u32) -> Resu
     if let Some(r) = known(op, a, b) {
         return Ok(r);
     }
-    if let Some(found) = recall(words, op, a, b) {
+    let cells = Cells { words };
+    if let Some(found) = recall(&cells, op, a, b) {
         return Ok(found);
     }
-    let p = take_apart(words, a, b);
+    let p = take_apart(&cells, a, b);
     let low = combine(words, op, p.a.low, p.b.low)?;
     let high = combine(words, op, p.a.high, p.b.high)?;
-    let r = join_cells(words, p.switch, low, high)?;
+    let node = Node {
+        switch: p.switch,
+        low,
+        high,
+    };
+    let r = join_cells(words, node)?;
     remember(words, a, b, r);
     Ok(r)
 }

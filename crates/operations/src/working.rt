@@ -1,25 +1,32 @@
 // The working words, which remember the answers at pairs of cells while one operation runs, and are zero between operations.
-ghost use Rattle.std.specs.Prelude.{◌≡◌, ◌<◌, ◌≤◌, length, IfSome};
+ghost use Rattle.std.specs.Prelude.{◌≡◌, ◌+◌, ◌*◌, ◌<◌, ◌≤◌, length, IfSome};
 ghost use Rattle.operations.specs.Ops.{meaning};
-ghost use Rattle.cells.specs.Words.{WellFormed, count, Correct, Remembers, remembered, Swept};
+ghost use Rattle.cells.specs.Words.{count, Correct, Remembers, slot, remembered, Swept};
 
 use cells::layout::{CELLS, PAIRS, WORKING};
+use cells::questions::Cells;
 use stores::connective::Connective;
 
 // The key of two cells is the first times this, and the second.
 const KEY: u32 = 65_536;
 
-// What is remembered of an operation on two cells.
-pub(crate) fn recall(words: &[u32], op: Connective, a: u32, b: u32) -> Option<u32>
-    requires formed { WellFormed words.now }
-    requires remembers { Remembers (meaning op) words.now }
-    requires a { (a < count words.now) × (0 < a) }
-    requires b { b < count words.now }
-    ensures { IfSome result (λ x. Correct (meaning op) words.now a b x) }
+// The pair of words for an operation on two cells.
+fn pair(a: u32, b: u32) -> usize
+    ensures { result ≡ 66 + 2 * slot a b }
 {
-    let place = WORKING + 2 * ((a as usize + 3 * b as usize) % PAIRS);
-    if words[place] == a * KEY + b {
-        Some(words[place + 1])
+    WORKING + 2 * ((a as usize + 3 * b as usize) % PAIRS)
+}
+
+// What is remembered of an operation on two cells.
+pub(crate) fn recall(cells: &Cells<'_>, op: Connective, a: u32, b: u32) -> Option<u32>
+    requires remembers { Remembers (meaning op) cells.now.words.now }
+    requires a { (a < count cells.now.words.now) × (0 < a) }
+    requires b { b < count cells.now.words.now }
+    ensures { IfSome result (λ x. Correct (meaning op) cells.now.words.now a b x) }
+{
+    let place = pair(a, b);
+    if cells.words[place] == a * KEY + b {
+        Some(cells.words[place + 1])
     } else {
         None
     }
@@ -31,7 +38,7 @@ pub(crate) fn remember(words: &mut [u32], a: u32, b: u32, r: u32)
     requires small { (a < 65536) × (b < 65536) }
     ensures { words.new ≡ remembered words.old a b r }
 {
-    let place = WORKING + 2 * ((a as usize + 3 * b as usize) % PAIRS);
+    let place = pair(a, b);
     words[place] = a * KEY + b;
     words[place + 1] = r;
 }

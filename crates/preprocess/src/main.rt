@@ -2,7 +2,7 @@
 // refused gets the one line of its refusal, and status 1.
 #![tactic(auto)]
 
-use expressions::line::only_name;
+use expressions::operand::Operand;
 use preprocessing::preprocess;
 use reporting::refuse;
 use std::env;
@@ -23,15 +23,14 @@ fn switch_of(option: &[u8]) -> Option<Switch<'_>> {
         [b'-', b'U', name @ ..] => Switch { name, on: false },
         _ => return None,
     };
-    match only_name(switch.name, 0, false, 0) {
-        Ok(part) if part.text.len() == switch.name.len() => Some(switch),
-        _ => None,
-    }
-}
-
-// The bit of switch `i`. Beyond 31 there is none, and so many switches are refused.
-fn bit(i: usize) -> u32 {
-    if i < 32 { 1u32 << i } else { 0 }
+    let operand = Operand {
+        line: switch.name,
+        from: 0,
+        comments: false,
+        number: 0,
+    };
+    let name = operand.only_name().ok()?;
+    (name.text.len() == switch.name.len()).then_some(switch)
 }
 
 // Writes what the options' configuration keeps of the source.
@@ -39,15 +38,18 @@ fn run(rt: &HostRuntime, options: &[String], source: &[u8]) -> anyhow::Result<Ex
     let heap = rt.alloc();
     let mut names = Vec::new(heap);
     let mut configuration = 0u32;
-    for (i, option) in options.iter().enumerate() {
+    // the next switch's; none is left for the 33rd, and so many are refused
+    let mut bit = 1u32;
+    for option in options {
         let Some(switch) = switch_of(option.as_bytes()) else {
             eprintln!(rt; "usage: preprocess [-DNAME | -UNAME]... < SOURCE")?;
             return Ok(ExitCode::FAILURE);
         };
         names.push(switch.name)?;
         if switch.on {
-            configuration |= bit(i);
+            configuration |= bit;
         }
+        bit <<= 1;
     }
     match preprocess(heap, names.as_slice(), configuration, source) {
         Ok(output) => {

@@ -1,9 +1,9 @@
 -- What a line that is accepted does to the names and the open chains.
 --   Entered ns ns'      the names behind an accepted line are those before it, or these and one that was not among them
-use Rattle.std.proofs.Common.{◌≡◌, ℕ, ◌+◌, ◌<◌, Bool, true, false, cond, not, ◌&&◌, eqb, leb, List, [], ◌∷◌, ◌++◌, length, is_some, Some, Ok, Err, Option, Result, sym, refl, ap, ◌∙◌, subst, arith, eq-eqb, leb-false}
+use Rattle.std.proofs.Common.{◌≡◌, ℕ, ◌+◌, ◌<◌, ◌≤◌, Bool, true, false, cond, not, ◌&&◌, eqb, leb, List, [], ◌∷◌, ◌++◌, length, is_some, Some, Ok, Err, Option, Result, sym, refl, ap, ◌∙◌, subst, arith, length-append, eq-eqb, leb-false}
 use Rattle.std.specs.Str.{bytes_eq}
 use Rattle.text.specs.Tokens.{Bytes}
-use Rattle.names.specs.Names.{index_from, fresh, distinct_from, distinct}
+use Rattle.names.specs.Names.{index_from}
 use Rattle.sources.specs.Classified.{Opening, Line, plain, name, if, elif, endif, refuse}
 use Rattle.sources.specs.Faults.{of_conditionals}
 use Rattle.conditionals.specs.Shape.{Shape, has, shaped, furthered, ended, is_else}
@@ -20,14 +20,6 @@ accepted false f r a e = (refl, e)
 pub same_ok : {A F : Type 0} (a b : A) → ◌≡◌ {A = Result A F} (Ok a) (Ok b) → a ≡ b
 same_ok a b e = cc
 
-append_none : (l : List Bytes) → l ++ [] ≡ l
-append_none [] = refl
-append_none (y ∷ l) = ap (λ (z : List Bytes). y ∷ z) (append_none l)
-
-append_one : (a : List Bytes) (y : Bytes) (ns : List Bytes) → (a ++ y ∷ []) ++ ns ≡ a ++ y ∷ ns
-append_one [] y ns = refl
-append_one (z ∷ a) y ns = ap (λ (l : List Bytes). z ∷ l) (append_one a y ns)
-
 parts : (p q : Bool) → (p && q) ≡ true → (p ≡ true) × (q ≡ true)
 parts true q e = (refl, e)
 parts false q e = let z : ◌≡◌ {A = ℕ} 0 1 = cc in absurd (omega arith)
@@ -39,14 +31,6 @@ joins false q e f = e
 opposite : (b : Bool) → not b ≡ true → b ≡ false
 opposite true e = sym e
 opposite false e = refl
-
--- a fresh name behind distinct ones
-pub distinct_more : (seen ns : List Bytes) (x : Bytes) → distinct_from seen ns ≡ true → fresh (seen ++ ns) x ≡ true → distinct_from seen (ns ++ x ∷ []) ≡ true
-distinct_more seen [] x d f = joins (fresh seen x) true (ap (λ (l : List Bytes). fresh l x) (sym (append_none seen)) ∙ f) refl
-distinct_more seen (y ∷ ns) x d f =
-    let h = parts (fresh seen y) (distinct_from (seen ++ y ∷ []) ns) d in
-    joins (fresh seen y) (distinct_from (seen ++ y ∷ []) (ns ++ x ∷ [])) h.0
-    (distinct_more (seen ++ y ∷ []) ns x h.1 (ap (λ (l : List Bytes). fresh l x) (append_one seen y ns) ∙ f))
 
 pub same_self : (x : Bytes) → bytes_eq x x ≡ true
 same_self [] = refl
@@ -67,11 +51,11 @@ index_there i (y ∷ ns) x = found_or (bytes_eq y x) i (index_from (i + 1) (ns +
 
 pub data Entered (ns : List Bytes) : List Bytes → Type 0 where
   none_more : Entered ns ns
-  one_more : (x : Bytes) → has x ns ≡ false → Entered ns (ns ++ x ∷ [])
+  one_more : (x : Bytes) → has x ns ≡ false → length ns < 64 → Entered ns (ns ++ x ∷ [])
 
-pub entered_distinct : (ns ns' : List Bytes) → Entered ns ns' → distinct ns ≡ true → distinct ns' ≡ true
-entered_distinct ns ns' none_more d = d
-entered_distinct ns ns' (one_more x f) d = distinct_more [] ns x d (ap not f)
+pub entered_few : (ns ns' : List Bytes) → Entered ns ns' → length ns ≤ 64 → length ns' ≤ 64
+entered_few ns ns' none_more h = h
+entered_few ns ns' (one_more x f l) h = omega (arith, length-append ns (x ∷ []))
 
 -- the line x, accepted, enters its name if it is a `define`, and is as deep in chains as the preprocessor's state behind it
 pub record Accepted (s s' : Shape) (x : Line) (σ : State) : Type 0 where
@@ -101,8 +85,9 @@ after_name n s s' x v l σ h e = by (v && not (has x s.names)) refl e
     by : (b : Bool) → (v && not (has x s.names)) ≡ b → cond b (refuse (leb 64 (length s.names)) (of_conditionals 20 n) (Ok (record { chains = s.chains; blocks = s.blocks; names = s.names ++ x ∷ [] }))) (Ok s) ≡ Ok s'
         → Accepted s s' (name x v l) σ
     by true g q =
-        subst (λ (t : Shape). Accepted s t (name x v l) σ) (same_ok _ s' (accepted (leb 64 (length s.names)) (of_conditionals 20 n) _ s' q).1)
-        (record { names = one_more x (opposite (has x s.names) (parts v (not (has x s.names)) g).1); deep = h })
+        let r = accepted (leb 64 (length s.names)) (of_conditionals 20 n) _ s' q in
+        subst (λ (t : Shape). Accepted s t (name x v l) σ) (same_ok _ s' r.1)
+        (record { names = one_more x (opposite (has x s.names) (parts v (not (has x s.names)) g).1) (leb-false 64 (length s.names) r.0); deep = h })
     by false g q = subst (λ (t : Shape). Accepted s t (name x v l) σ) (same_ok s s' q) (record { names = none_more; deep = h })
 
 after_further : (n : ℕ) (s s' : Shape) (b : Bool) (cs : List Bool) (fs : List Frame) → length cs ≡ length fs → furthered n b cs s ≡ Ok s'

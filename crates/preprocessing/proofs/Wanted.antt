@@ -1,10 +1,11 @@
 -- What is wanted of a source, by what was tested.
-use Rattle.std.proofs.Common.{◌≡◌, ℕ, ◌*◌, ◌%◌, ◌^◌, ◌<◌, ◌≤◌, Bool, true, false, cond, not, ◌||◌, ltb, List, [], ◌++◌, length, Some, None, Ok, Err, Option, Result, sym, refl, ap, ◌∙◌, subst, arith, ltb-false, le-ltb, lt-ltb, le-leb}
+use Rattle.std.proofs.Common.{◌≡◌, ℕ, ◌*◌, ◌%◌, ◌^◌, ◌<◌, ◌≤◌, Bool, true, false, cond, not, ltb, List, [], ◌++◌, length, Some, None, Ok, Err, Option, Result, sym, refl, ap, ◌∙◌, subst, ap₂, vec_items, Bor, arith, le-ltb, lt-ltb, le-leb}
 use Rattle.std.proofs.lemmas.Nat.{one_shl}
 use Rattle.faults.specs.declared.Refusal.{Refusal}
 use Rattle.faults.specs.declared.Layer.TheVariants.{Store, Session}
 use Rattle.text.specs.Tokens.{Bytes}
-use Rattle.names.specs.Names.{distinct}
+use Rattle.names.specs.Names.{texts, distinct}
+use Rattle.preprocessing.proofs.Turns.{length_texts}
 use Rattle.sources.specs.Lines.{lines, is_too_large, joined}
 use Rattle.sources.specs.Classified.{Line, refuse, changed}
 use Rattle.sources.specs.Faults.{of_lines, line_fault}
@@ -16,7 +17,9 @@ use Rattle.conditionals.specs.Answers.{shape_of, beginning, start_of}
 use Rattle.conditionals.specs.declared.Shape as code
 use Rattle.preprocessor.specs.Plain.{output, defined_in, began, preprocessed}
 use Rattle.preprocessor.specs.Represented.{Represents}
-use Rattle.preprocessor.specs.declared.state.State as states
+use Rattle.preprocessing.specs.declared.Run.{Run}
+use Rattle.preprocessing.proofs.Rendered.{read_at_places}
+use Rattle.sources.specs.Places.{placed}
 use Rattle.preprocessing.specs.Faults.{outside}
 use Rattle.preprocessing.specs.Outcome.{wanted}
 use Rattle.preprocessing.specs.Lines.{Answer, rendered, Going}
@@ -59,7 +62,7 @@ module _ (ns : List Bytes) (k : ℕ) (t : Bytes) where
   within h d b = apart h d ∙ passed (not (ltb k (2 ^ length ns))) (outside 4 Session) (preprocessed ns k t) (ap not (lt-ltb k (2 ^ length ns) b))
 
   abbrev whole : Answer
-  whole = rendered false 1 (begun ns) (lines t) (began (defined_in ns k))
+  whole = rendered (placed false 1 (lines t)) (begun ns) (began (defined_in ns k))
 
   abbrev from : Result (List Line) Refusal → Answer
   from r = changed (λ xs. joined (output xs (began (defined_in ns k)))) r
@@ -79,7 +82,9 @@ module _ (ns : List Bytes) (k : ℕ) (t : Bytes) where
       by false q = let z : ◌≡◌ {A = ℕ} 0 1 = cc in absurd (omega arith)
 
   pub sized : (r : Sized) (u : Unit {0}) → length ns ≤ 24 → true ≡ distinct ns → k < 2 ^ length ns → r ≡ size_of (is_too_large t) → r ≡ Ok u → wanted ns k t ≡ whole
-  sized r u h d b e g = within h d b ∙ ap (λ (z : Bool). from (refuse z (of_lines 8 0) (read_lines false 1 (begun ns) (lines t)))) (right_size (is_too_large t) r u e g)
+  sized r u h d b e g =
+      within h d b ∙ ap (λ (z : Bool). from (refuse z (of_lines 8 0) (read_lines false 1 (begun ns) (lines t)))) (right_size (is_too_large t) r u e g)
+      ∙ ap from (sym (read_at_places false 1 (lines t) (begun ns)))
 
   nothing_before : (r : Answer) → r ≡ changed (λ more. [] ++ more) r
   nothing_before (Ok bs) = refl
@@ -89,23 +94,30 @@ module _ (ns : List Bytes) (k : ℕ) (t : Bytes) where
   starts s h e = let g : ◌≡◌ {A = Option Shape} (Some (shape_of s)) (Some (begun ns)) = e ∙ ap (λ (b : Bool). cond b (Some (begun ns)) None) (le-leb (length ns) 64 (omega (arith, h))) in cc
 
   -- the standing before the first line
-  pub first : (s : code.Shape) (q : states.State) → wanted ns k t ≡ whole → shape_of s ≡ begun ns → Represents ns q (began (defined_in ns k))
-      → Going (wanted ns k t) [] false 1 s q (lines t)
-  first s q w e r =
+  pub first : (r : Run) → vec_items r.output ≡ [] → length ns ≤ 24 → wanted ns k t ≡ whole → shape_of r.shape ≡ begun ns → Represents ns r.state (began (defined_in ns k))
+      → Going (wanted ns k t) r (placed false 1 (lines t))
+  first r o h w e q =
       record {
         state = began (defined_in ns k);
-        stands = subst (λ (x : Shape). Represents x.names q (began (defined_in ns k))) (sym e) r;
+        stands = subst (λ (x : Shape). Represents x.names r.state (began (defined_in ns k))) (sym e) q;
         deep = ap (λ (x : Shape). length x.chains) e;
-        left = w ∙ nothing_before whole ∙ ap (λ (x : Shape). changed (λ more. [] ++ more) (rendered false 1 x (lines t) (began (defined_in ns k)))) (sym e);
+        few = subst (λ (x : Shape). length x.names ≤ 64) (sym e) (omega (arith, h));
+        left = w ∙ nothing_before whole ∙ ap₂ (λ (x : Shape) (bs : Bytes). changed (λ more. bs ++ more) (rendered (placed false 1 (lines t)) x (began (defined_in ns k)))) (sym e) (sym o);
       }
 
--- a bit that is shifted by the number of switches
-pub shifted : (n : ℕ) → n ≤ 24 → (1 * 2 ^ n) % 4294967296 ≡ 2 ^ n
+-- the number of configurations, as the code computes it
+shifted : (n : ℕ) → n ≤ 24 → (1 * 2 ^ n) % 4294967296 ≡ 2 ^ n
 shifted n h = omega (arith, one_shl n 32 (omega (arith, h)))
 
-pub small : (t : Bytes) → is_too_large t ≡ false → length t ≤ 65535
-small t e = by (ltb 65535 (length t)) refl e
-  where
-    by : (b : Bool) → ltb 65535 (length t) ≡ b → (b || ltb 4095 (length (lines t))) ≡ false → length t ≤ 65535
-    by true i q = let z : ◌≡◌ {A = ℕ} 0 1 = cc in absurd (omega arith)
-    by false i q = ltb-false 65535 (length t) i
+module _ (rs : List (Bor Bytes)) (k : ℕ) (h : length rs ≤ 24) where
+  pub few_names : length (texts rs) ≤ 24
+  few_names = omega (arith, h, length_texts rs)
+
+  all_of : (1 * 2 ^ length rs) % 4294967296 ≡ 2 ^ length (texts rs)
+  all_of = shifted (length rs) h ∙ ap (λ (n : ℕ). 2 ^ n) (sym (length_texts rs))
+
+  pub low_number : k < (1 * 2 ^ length rs) % 4294967296 → k < 2 ^ length (texts rs)
+  low_number l = omega (arith, l, all_of)
+
+  pub high_number : (1 * 2 ^ length rs) % 4294967296 ≤ k → 2 ^ length (texts rs) ≤ k
+  high_number l = omega (arith, l, all_of)

@@ -1,10 +1,11 @@
 // Why a source is not preprocessed.
 ghost use Rattle.std.specs.Prelude.{◌≡◌};
+ghost use Rattle.sources.specs.declared.fault.SourceFault.TheVariants.{Lines};
 ghost use Rattle.preprocessing.specs.Faults.{described};
 ghost use Rattle.preprocessing.specs.declared.fault.PreprocessingFault.TheVariants.{Source, OutOfMemory};
 
 use faults::{Layer, Refusal};
-use sources::fault::SourceFault;
+use sources::fault::{LineFault, SourceFault};
 use std::alloc::AllocError;
 
 #[derive(Clone, Copy)]
@@ -29,7 +30,7 @@ impl PreprocessingFault {
             PreprocessingFault::TooManySwitches => (7, Layer::Store),
             PreprocessingFault::Names => (23, Layer::Session),
             PreprocessingFault::NoConfiguration => (4, Layer::Session),
-            PreprocessingFault::Source(fault) => return Some(fault.refusal()),
+            PreprocessingFault::Source(fault) => return Some(fault.into()),
             PreprocessingFault::OutOfMemory => return None,
         };
         Some(Refusal {
@@ -46,6 +47,14 @@ impl From<SourceFault> for PreprocessingFault {
 
     fn from(fault: SourceFault) -> PreprocessingFault {
         Self::Source(fault)
+    }
+}
+
+impl From<LineFault> for PreprocessingFault {
+    ghost from_gives = { λ f r. r ≡ Source (Lines f) };
+
+    fn from(fault: LineFault) -> PreprocessingFault {
+        Self::Source(fault.into())
     }
 }
 

@@ -2,71 +2,53 @@
 // Promises: the output is the plain preprocessor's, byte for byte, or the refusal is the first one due.
 #![tactic(auto)]
 
-ghost use Rattle.std.specs.Prelude.{◌≡◌, ◌≤◌, length};
+ghost use Rattle.std.specs.Prelude.{◌≡◌};
 ghost use Rattle.names.specs.Names.{texts};
 ghost use Rattle.preprocessing.specs.Outcome.{Preprocesses};
 ghost use Rattle.preprocessing.specs.Lines.{LineWritten, Writes};
 
 pub mod fault;
 
-use classification::Place;
 use conditionals::Shape;
 use fault::PreprocessingFault;
 use names::all_distinct;
 use preprocessor::state::State;
 use reading::read_line;
-use scanning::open_after;
-use sources::fault::SourceFault;
-use sources::line::{check_size, next_line};
+use sources::line::check_size;
+use sources::place::{SourceLine, SourceLines};
 use std::alloc::Global;
 use stores::MAX_SWITCHES;
 
-// Reads a line, writes it where it is kept, and goes on to the state behind it.
-fn write_line<'a>(
-    output: &mut Vec<u8>,
-    shape: &mut Shape<'a>,
-    state: &mut State,
-    line: &'a [u8],
-    place: Place,
-) -> Result<(), PreprocessingFault>
-    ensures { LineWritten place line.now shape.old shape.new state.old state.new output.old.items output.new.items result }
-{
-    let read = read_line(shape, line, place)?;
-    if state.keeps(&read) {
-        output.extend_from_slice(line)?;
-    }
-    state.step(&read, shape.names());
-    Ok(())
+// The output so far, and what the lines read so far leave.
+#[derive(Drop)]
+struct Run<'a> {
+    output: Vec<u8>,
+    shape: Shape<'a>,
+    state: State<'a>,
 }
 
-// The output of all lines, from the shape and the state before the first one on.
-fn write_lines<'a>(
-    heap: Global,
-    source: &'a [u8],
-    mut shape: Shape<'a>,
-    mut state: State,
-) -> Result<Vec<u8>, PreprocessingFault>
-    requires { length source.now ≤ 65535 }
-    ensures { Writes source.now shape.entry state result }
-{
-    let mut output = Vec::new(heap);
-    let mut rest = source;
-    let mut number = 1usize;
-    let mut in_comment = false;
-    while !rest.is_empty() {
-        let (line, behind) = next_line(rest);
-        let last = behind.is_empty();
-        let place = Place {
-            number,
-            in_comment,
-            last,
-        };
-        write_line(&mut output, &mut shape, &mut state, line, place)?;
-        in_comment = open_after(in_comment, line);
-        number += 1;
-        rest = behind;
+impl<'a> Run<'a> {
+    // Reads a line, writes it where it is kept, and goes on to the state behind it.
+    fn write_line(&mut self, line: &SourceLine<'a>) -> Result<(), PreprocessingFault>
+        ensures { LineWritten line.now self.old self.new result }
+    {
+        let read = read_line(&mut self.shape, line)?;
+        if self.state.keeps(&read) {
+            self.output.extend_from_slice(line.text)?;
+        }
+        self.state.step(&read);
+        Ok(())
     }
-    Ok(output)
+
+    // Writes all lines, where none was read before.
+    fn write_lines(&mut self, source: &'a [u8]) -> Result<(), PreprocessingFault>
+        ensures { Writes source.now self.old self.new result }
+    {
+        for line in SourceLines::new(source) {
+            self.write_line(&line)?;
+        }
+        Ok(())
+    }
 }
 
 // What the configuration keeps of the source, where the names are the switches', in order.
@@ -87,12 +69,13 @@ pub fn preprocess<'a>(
     if configuration >= 1u32 << names.len() {
         return Err(PreprocessingFault::NoConfiguration);
     }
-    if let Err(fault) = check_size(source) {
-        return Err(PreprocessingFault::Source(SourceFault::Lines(fault)));
-    }
-    let state = State::new(names.len(), configuration);
-    match Shape::new(names) {
-        Some(shape) => write_lines(heap, source, shape, state),
-        None => Err(PreprocessingFault::TooManySwitches),
-    }
+    check_size(source)?;
+    let shape = Shape::new(names).ok_or(PreprocessingFault::TooManySwitches)?;
+    let mut run = Run {
+        output: Vec::new(heap),
+        shape,
+        state: State::new(names, configuration),
+    };
+    run.write_lines(source)?;
+    Ok(run.output)
 }

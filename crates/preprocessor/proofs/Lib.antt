@@ -1,3 +1,2 @@
-pub mod Frames
-pub mod Flags
+pub mod Names
 pub mod Standing

@@ -1,27 +1,21 @@
 // What one configuration has read so far.
-ghost use Rattle.std.specs.Prelude.{◌≤◌};
+use arrayvec::ArrayVec;
+use conditionals::{MAX_CHAINS, MAX_NAMES};
 
 mod chain;
 mod steps;
 
-// So many names have an entry at most, and so many chains are open.
-pub const MAX_NAMES: usize = 64;
-
-pub const MAX_CHAINS: usize = 32;
-
 // An open chain of conditionals: is its outside active, was a block taken, is this block active?
-#[derive(Clone, Copy)]
+#[derive(Clone, Copy, Default)]
 pub struct Frame {
     outside: bool,
     taken: bool,
     active: bool,
 }
 
-// Which of the names with an entry are defined, and the open chains, innermost last.
+// The names that are defined, each of them once, and the open chains, innermost last.
 #[derive(Drop)]
-pub struct State {
-    flags: [bool; MAX_NAMES],
-    frames: [Frame; MAX_CHAINS],
-    depth: usize,
-    ghost few: { depth ≤ 32 },
+pub struct State<'a> {
+    defined: ArrayVec<&'a [u8], MAX_NAMES>,
+    chains: ArrayVec<Frame, MAX_CHAINS>,
 }

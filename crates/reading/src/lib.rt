@@ -4,20 +4,20 @@
 
 ghost use Rattle.reading.specs.Lines.{LineOutcome};
 
-use classification::{Place, classify};
+use classification::classify;
 use conditionals::Shape;
 use sources::fault::SourceFault;
 use sources::line::Line;
+use sources::place::SourceLine;
 
-// Reads the line, which comes with its line feed, where `shape` is what the lines before it leave open.
+// Reads the line, where `shape` is what the lines before it leave open.
 pub fn read_line<'a>(
     shape: &mut Shape<'a>,
-    line: &'a [u8],
-    place: Place,
+    line: &SourceLine<'a>,
 ) -> Result<Line<'a>, SourceFault>
-    ensures { LineOutcome place line.now shape.old shape.new result }
+    ensures { LineOutcome line.now shape.old shape.new result }
 {
-    let read = classify(line, place)?;
-    shape.read(&read, place.number, place.last)?;
+    let read = classify(line)?;
+    shape.read(&read, line)?;
     Ok(read)
 }

@@ -1,9 +1,11 @@
 -- The first line of a text, with its line feed.
-use Rattle.std.proofs.Common.{◌≡◌, ℕ, zero, suc, ◌-◌, ◌<◌, ◌≤◌, Bool, true, false, cond, eqb, List, [], ◌∷◌, ◌++◌, length, take, sym, refl, ap, ◌∙◌, arith, length-append, take_all, eqb-true}
+use Rattle.std.proofs.Common.{◌≡◌, ℕ, zero, suc, ◌-◌, ◌<◌, ◌≤◌, Bool, true, false, cond, eqb, List, [], ◌∷◌, ◌++◌, length, take, sym, refl, ap, ◌∙◌, ◌+◌, add-one, ne_eqb, arith, length-append, take_all, eqb-true}
 use lib.Seq.{take-append-le}
 use Rattle.text.specs.Tokens.{Bytes}
 use Rattle.lines.specs.Lines.{until_feed, past_feed}
-use Rattle.sources.specs.Lines.{onto, lines}
+use Rattle.scanning.specs.Modes.{open_after}
+use Rattle.sources.specs.Lines.{nil, onto, lines}
+use Rattle.sources.specs.Places.{placed}
 
 abbrev with_feed : Bytes → Bytes
 with_feed [] = []
@@ -79,3 +81,21 @@ not_empty (suc n) e = omega arith
 
 pub none_left : (s : Bytes) → true ≡ eqb (length s) 0 → length (lines s) ≡ 0
 none_left s e = omega (arith, lines_few s, eqb-true (length s) 0 (sym e))
+
+-- a text with a byte has a line
+nil_onto : (x : ℕ) (ls : List Bytes) → nil (onto x ls) ≡ false
+nil_onto x [] = refl
+nil_onto x (l ∷ ls) = refl
+
+nil_by : (b : Bool) (x : ℕ) (r : Bytes) → nil (cond b ((x ∷ []) ∷ lines r) (onto x (lines r))) ≡ false
+nil_by true x r = refl
+nil_by false x r = nil_onto x (lines r)
+
+pub nil_lines : (s : Bytes) → eqb (length s) 0 ≡ nil (lines s)
+nil_lines [] = refl
+nil_lines (x ∷ r) = ne_eqb (suc (length r)) 0 (omega arith) ∙ sym (nil_by (eqb x 10) x r)
+
+-- the first of the lines with its place
+pub placed_more : (c : Bool) (n : ℕ) (ls ls' : List Bytes) (l : Bytes) (b d : Bool) → ls ≡ l ∷ ls' → b ≡ nil ls' → d ≡ open_after c l
+    → placed c n ls ≡ record { text = l; number = n; in_comment = c; last = b } ∷ placed d (n + 1) ls'
+placed_more c n ls ls' l b d e q k = rw (e, q, k, add-one) refl

@@ -3,7 +3,7 @@
 --   shown s y         what the line y of the code is, where s is the line's bytes without the line feed
 --   seen x            what the line x of the definition is
 --   Classifies l z r  the answer r on the line l is what the definition's z says: the same line, or the same refusal
-use Rattle.std.specs.Prelude.{◌≡◌, Bool, true, false, List, take, Ok, Err, Result}
+use Rattle.std.specs.Prelude.{◌≡◌, Bool, true, false, List, Ok, Err, Result}
 use Rattle.faults.specs.declared.Refusal.{Refusal}
 use Rattle.text.specs.Tokens.{Bytes}
 use Rattle.expressions.specs.Conditions.{Item, items, postfix}
@@ -23,7 +23,7 @@ pub data Seen : Type 0 where
   ending : Seen
 
 abbrev pub steps_of : Condition → List Item
-steps_of k = items k.line.now (take k.len k.steps)
+steps_of k = items k.steps.items
 
 abbrev pub shown : Line → Seen
 shown code.Plain = plainly

@@ -1,4 +1,5 @@
 pub mod Faults
 pub mod Lines
+pub mod Places
 pub mod Classified
 pub mod Answers

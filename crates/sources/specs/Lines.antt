@@ -1,12 +1,17 @@
 -- The lines of a source. Assumes nothing.
+--   nil xs          xs is empty
 --   onto x ls      the byte x in front of the first line
 --   lines s        the lines in order: each ends with its line feed, and the last may lack it, so that an empty source has none
 --   joined ls      the bytes of lines, one behind the other
 --   content l      a line without its line feed
 --   is_too_large s     s has more than 65,535 bytes or more than 4,095 lines
-use Rattle.std.specs.Prelude.{ℕ, Bool, cond, ◌||◌, List, [], ◌∷◌, ◌++◌, length, ◌==◌, nat_lt}
+use Rattle.std.specs.Prelude.{ℕ, Bool, true, false, cond, ◌||◌, List, [], ◌∷◌, ◌++◌, length, ◌==◌, nat_lt}
 use Rattle.text.specs.Tokens.{Bytes}
 use Rattle.lines.specs.Lines.{until_feed}
+
+abbrev pub nil : {A : Type 0} → List A → Bool
+nil [] = true
+nil (x ∷ xs) = false
 
 abbrev pub onto : ℕ → List Bytes → List Bytes
 onto x [] = (x ∷ []) ∷ []

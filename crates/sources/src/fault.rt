@@ -60,11 +60,11 @@ impl From<ConditionalFault> for SourceFault {
     }
 }
 
-impl LineFault {
-    pub fn refusal(self) -> Refusal
-        ensures { result ≡ line_fault self }
-    {
-        let (number, line) = match self {
+impl From<LineFault> for Refusal {
+    ghost from_gives = { λ f r. r ≡ line_fault f };
+
+    fn from(f: LineFault) -> Refusal {
+        let (number, line) = match f {
             LineFault::TooLarge => (8, 0),
             LineFault::Continued { line } => (9, line),
             LineFault::CommentOpen { line } => (10, line),
@@ -79,11 +79,11 @@ impl LineFault {
     }
 }
 
-impl ConditionalFault {
-    pub fn refusal(self) -> Refusal
-        ensures { result ≡ conditional_fault self }
-    {
-        let (number, line) = match self {
+impl From<ConditionalFault> for Refusal {
+    ghost from_gives = { λ f r. r ≡ conditional_fault f };
+
+    fn from(f: ConditionalFault) -> Refusal {
+        let (number, line) = match f {
             ConditionalFault::OutsideChain { line } => (17, line),
             ConditionalFault::TooManyChains { line } => (18, line),
             ConditionalFault::TooManyBlocks { line } => (19, line),
@@ -99,14 +99,14 @@ impl ConditionalFault {
     }
 }
 
-impl SourceFault {
-    pub fn refusal(self) -> Refusal
-        ensures { result ≡ described self }
-    {
-        match self {
-            SourceFault::Lines(fault) => fault.refusal(),
-            SourceFault::Expression(fault) => fault.refusal(),
-            SourceFault::Conditionals(fault) => fault.refusal(),
+impl From<SourceFault> for Refusal {
+    ghost from_gives = { λ f r. r ≡ described f };
+
+    fn from(f: SourceFault) -> Refusal {
+        match f {
+            SourceFault::Lines(fault) => fault.into(),
+            SourceFault::Expression(fault) => fault.into(),
+            SourceFault::Conditionals(fault) => fault.into(),
         }
     }
 }

@@ -1,5 +1,6 @@
 // The lines of a source, and what a line is.
-ghost use Rattle.std.specs.Prelude.{◌≡◌, ◌<◌, ◌∷◌, ◌++◌, length, if◌then◌else◌, Ok, Err};
+ghost use Rattle.std.specs.Prelude.{◌≡◌, ◌+◌, ◌<◌, ◌≤◌, ◌∷◌, ◌++◌, false, length, if◌then◌else◌, Ok, Err};
+ghost use Rattle.std.specs.Iterator.{YieldsFirstRef, YieldsFirstBy, item_count};
 ghost use Rattle.lines.specs.Lines.{until_feed};
 ghost use Rattle.sources.specs.declared.fault.LineFault.TheVariants.{TooLarge};
 ghost use Rattle.sources.specs.Lines.{lines, content as content_of, is_too_large};
@@ -25,6 +26,27 @@ pub enum Line<'a> {
     Endif,
 }
 
+// The lines of a text that are still to come, each with its line feed, if it has one.
+#[derive(Clone, Copy)]
+pub struct Lines<'a>(pub &'a [u8]);
+
+impl<'a> Iterator for Lines<'a> {
+    type Item = &'a [u8];
+
+    ghost next_gives = { YieldsFirstRef (λ s. lines s.0.now) };
+
+    ghost remaining = { item_count (λ s. lines s.0.now) };
+
+    fn next(&mut self) -> Option<&'a [u8]> {
+        if self.0.is_empty() {
+            return None;
+        }
+        let (line, behind) = next_line(self.0);
+        self.0 = behind;
+        Some(line)
+    }
+}
+
 // The first line with its line feed, if it has one, and what stands behind it.
 pub fn next_line(text: &[u8]) -> (&[u8], &[u8])
     ensures first { 0 < length text.now → lines text.now ≡ result.0.now ∷ lines result.1.now }
@@ -43,24 +65,11 @@ pub fn content(line: &[u8]) -> &[u8]
     first_line(line).0
 }
 
-fn line_count(text: &[u8]) -> usize
-    ensures { result ≡ length (lines text.now) }
-{
-    let mut count = 0;
-    let mut rest = text;
-    while !rest.is_empty() {
-        let (_, behind) = next_line(rest);
-        count += 1;
-        rest = behind;
-    }
-    count
-}
-
 // Refuses a source with more bytes or lines than one may have.
 pub fn check_size(text: &[u8]) -> Result<(), LineFault>
     ensures { result ≡ (if is_too_large text.now then Err TooLarge else Ok tt) }
 {
-    if text.len() > MAX_BYTES || line_count(text) > MAX_LINES {
+    if text.len() > MAX_BYTES || Lines(text).count() > MAX_LINES {
         return Err(LineFault::TooLarge);
     }
     Ok(())

@@ -1,23 +1,17 @@
--- Which of the names with an entry are defined, and working an expression out to a truth value. Assumes nothing.
---   flag_of o fs       the flag at the place o; false where there is none
---   env_of ns fs y     is y defined, where the flags tell it of the names in their order? A name without an entry is not
+-- Which names are defined, and working an expression out to a truth value. Assumes nothing.
+--   env_of ds y       is y one of the defined names?
 --   first st, rest st the value on top of a stack (false where it is empty), and what lies below
 --   one i D st        what one step leaves, on the stack of values that the steps before it left, the newest first
 --   popped i st       the stack without that step's operands
 --   machine is D st   the steps one after another; the last value left is the answer
---   stacked vs n      the first n of vs as a stack
-use Rattle.std.specs.Prelude.{ℕ, zero, suc, Bool, true, false, not, ◌&&◌, ◌||◌, List, [], ◌∷◌, Some, None, Option, slice_index_or}
+use Rattle.std.specs.Prelude.{Bool, true, false, not, ◌&&◌, ◌||◌, List, [], ◌∷◌, is_some}
 use Rattle.text.specs.Tokens.{Bytes}
 use Rattle.names.specs.Names.{index_of}
 use Rattle.expressions.specs.Conditions.{Item, false-item, true-item, not-item, and_item, or-item, name_item}
 use Rattle.expressions.specs.Truth.{Env}
 
-abbrev pub flag_of : Option ℕ → List Bool → Bool
-flag_of None fs = false
-flag_of (Some i) fs = slice_index_or fs i false
-
-abbrev pub env_of : List Bytes → List Bool → Env
-env_of ns fs y = flag_of (index_of ns y) fs
+abbrev pub env_of : List Bytes → Env
+env_of ds y = is_some (index_of ds y)
 
 abbrev pub first : List Bool → Bool
 first [] = false
@@ -46,7 +40,3 @@ popped or-item st = rest (rest st)
 abbrev pub machine : List Item → Env → List Bool → Bool
 machine [] D st = first st
 machine (i ∷ is) D st = machine is D (one i D st ∷ popped i st)
-
-abbrev pub stacked : List Bool → ℕ → List Bool
-stacked vs zero = []
-stacked vs (suc n) = slice_index_or vs n false ∷ stacked vs n

@@ -1,71 +1,71 @@
-// The truth value of a condition, where flags tell which names are defined. May use `text`, `names`, `expressions` and `sources`.
-// Promises: the value of the expression whose steps the condition has; a name without an entry is not defined.
+// The truth value of a condition, where some names are defined. May use `text`, `names`, `expressions` and `sources`.
+// Promises: the value of the expression whose steps the condition has.
 #![tactic(auto)]
 
-ghost use Rattle.std.specs.Prelude.{◌≡◌, ◌≤◌, [], length};
+ghost use Rattle.std.specs.Prelude.{◌≡◌, ◌≤◌, reverse};
+ghost use Rattle.arrayvec.specs.ArrayVec.{array_vec_len};
 ghost use Rattle.names.specs.Names.{texts};
 ghost use Rattle.expressions.specs.Grammar.{Expr};
-ghost use Rattle.expressions.specs.Conditions.{item_at, items, postfix};
+ghost use Rattle.expressions.specs.Conditions.{item, postfix};
 ghost use Rattle.expressions.specs.Truth.{truth as value_of_lem};
 ghost use Rattle.sources.specs.Answers.{steps_of};
-ghost use Rattle.truth.specs.Worked.{env_of, one, popped as without, machine, stacked};
+ghost use Rattle.truth.specs.Worked.{env_of, one, popped as without, first, rest};
 
-mod stack;
-
-use expressions::condition::{Condition, Step, name_at};
+use arrayvec::ArrayVec;
+use expressions::condition::{Condition, MAX_LINE, Step};
 use names::index_of;
-use stack::Stack;
 
-// Is `name` defined? `flags` tell it of `names`, in their order.
-pub fn is_defined(name: &[u8], names: &[&[u8]], flags: &[bool]) -> bool
-    ensures { result ≡ env_of (texts names.now) flags.now name.now }
+// The values that the steps worked out so far have left, the newest last. A condition has at most so many steps, and each leaves one value.
+type Stack = ArrayVec<bool, MAX_LINE>;
+
+// Is `name` one of the defined names?
+pub fn is_defined(name: &[u8], defined: &[&[u8]]) -> bool
+    ensures { result ≡ env_of (texts defined.now) name.now }
 {
-    match index_of(names, name) {
-        Some(i) => i < flags.len() && flags[i],
-        None => false,
-    }
+    index_of(defined, name).is_some()
+}
+
+// Takes the newest value off; false where there is none.
+fn pop(stack: &mut Stack) -> bool
+    ensures value { result ≡ first (reverse stack.old.items) }
+    ensures popped { reverse stack.new.items ≡ rest (reverse stack.old.items) }
+    ensures len { array_vec_len stack.new ≤ array_vec_len stack.old }
+{
+    stack.pop().unwrap_or(false)
 }
 
 // The value that one step leaves. Its operands come off the stack.
-fn value(line: &[u8], step: Step, names: &[&[u8]], flags: &[bool], stack: &mut Stack) -> bool
-    ensures value { result ≡ one (item_at line.now step) (env_of (texts names.now) flags.now) (stacked stack.old.values stack.old.len) }
-    ensures popped { stacked stack.new.values stack.new.len ≡ without (item_at line.now step) (stacked stack.old.values stack.old.len) }
-    ensures len { stack.new.len ≤ stack.old.len }
+fn value(step: Step<'_>, defined: &[&[u8]], stack: &mut Stack) -> bool
+    ensures value { result ≡ one (item step.entry) (env_of (texts defined.now)) (reverse stack.old.items) }
+    ensures popped { reverse stack.new.items ≡ without (item step.entry) (reverse stack.old.items) }
+    ensures len { array_vec_len stack.new ≤ array_vec_len stack.old }
 {
     match step {
         Step::Never => false,
         Step::Always => true,
-        Step::Defined { at, len } => is_defined(name_at(line, at, len), names, flags),
-        Step::Not => !stack.pop(),
+        Step::Defined(name) => is_defined(name, defined),
+        Step::Not => !pop(stack),
         Step::And => {
-            let b = stack.pop();
-            let a = stack.pop();
+            let b = pop(stack);
+            let a = pop(stack);
             a && b
         }
         Step::Or => {
-            let b = stack.pop();
-            let a = stack.pop();
+            let b = pop(stack);
+            let a = pop(stack);
             a || b
         }
     }
 }
 
-// Works the steps out in their order. The answer is the value that the last one left.
-fn work_steps(line: &[u8], steps: &[Step], names: &[&[u8]], flags: &[bool]) -> bool
-    requires { length steps.now ≤ 255 }
-    ensures { result ≡ machine (items line.now steps.now) (env_of (texts names.now) flags.now) [] }
+// Does the condition hold, where just these names are defined? The value that its last step left tells.
+pub fn holds(condition: &Condition<'_>, defined: &[&[u8]]) -> bool
+    ensures { (e : Expr) → steps_of condition.now ≡ postfix e → result ≡ value_of_lem e (env_of (texts defined.now)) }
 {
     let mut stack = Stack::new();
-    for step in steps {
-        let value = value(line, *step, names, flags, &mut stack);
+    for step in condition.steps() {
+        let value = value(*step, defined, &mut stack);
         stack.push(value);
     }
-    stack.pop()
-}
-
-// Does the condition hold, where `flags` tell which of `names` are defined?
-pub fn holds(condition: &Condition<'_>, names: &[&[u8]], flags: &[bool]) -> bool
-    ensures { (e : Expr) → steps_of condition.now ≡ postfix e → result ≡ value_of_lem e (env_of (texts names.now) flags.now) }
-{
-    work_steps(condition.line(), condition.steps(), names, flags)
+    pop(&mut stack)
 }

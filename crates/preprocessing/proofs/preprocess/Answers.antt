@@ -1,9 +1,15 @@
-use Rattle.std.proofs.Common.{ℕ, ◌^◌, ◌<◌, ◌≤◌, length, sym, subst, arith}
+use Rattle.std.proofs.Common.{ℕ, ◌^◌, ◌<◌, ◌≤◌, length, false, Err, sym, ap, ◌∙◌, subst, arith}
+use Rattle.std.proofs.lemmas.Result.{err_from_is_err_and}
 use Rattle.names.specs.Names.{texts}
-use Rattle.sources.specs.Lines.{is_too_large}
+use Rattle.sources.specs.Lines.{lines}
+use Rattle.sources.specs.Places.{placed}
+use Rattle.conditionals.specs.Answers.{start_of}
+use Rattle.preprocessing.specs.Outcome.{Preprocesses, wanted}
+use Rattle.preprocessing.specs.Lines.{Going}
 use Rattle.preprocessing.proofs.Turns.{length_texts}
-use Rattle.preprocessing.proofs.Wanted.{too_many, alike, beyond, too_large, sized, starts, first, shifted, small, right_size}
+use Rattle.preprocessing.proofs.Wanted.{too_many, alike, beyond, too_large, sized, starts, first, few_names, low_number, high_number}
 use Rattle.preprocessing.proofs.preprocess.Goals as goal
+use Rattle.preprocessing.proofs.preprocess.Goals.{After-new-3}
 
 pub returns-then-names-gt-MAX_SWITCHES : goal.returns-then-names-gt-MAX_SWITCHES
 returns-then-names-gt-MAX_SWITCHES c =
@@ -13,35 +19,41 @@ returns-then-names-gt-MAX_SWITCHES c =
 pub returns-then-not-all_distinct : goal.returns-then-not-all_distinct
 returns-then-not-all_distinct c =
     let ns = texts c.args.names.now in
-    alike ns c.args.configuration c.args.source.now (omega (arith, c.if-names-gt-MAX_SWITCHES.false, length_texts c.args.names.now)) c.if-not-all_distinct.ensures
+    alike ns c.args.configuration c.args.source.now (few_names c.args.names.now c.args.configuration c.if-names-gt-MAX_SWITCHES.false) c.if-not-all_distinct.ensures
 
 pub returns-then-configuration-names : goal.returns-then-configuration-names
 returns-then-configuration-names c =
     let ns = texts c.args.names.now in
-    let few : length ns ≤ 24 = omega (arith, c.if-names-gt-MAX_SWITCHES.false, length_texts c.args.names.now) in
-    let high : 2 ^ length ns ≤ c.args.configuration =
-    subst (λ (n : ℕ). 2 ^ n ≤ c.args.configuration) (sym (length_texts c.args.names.now)) (omega (arith, c.if-configuration-names.true, shifted (length c.args.names.now) c.if-names-gt-MAX_SWITCHES.false)) in
+    let few = few_names c.args.names.now c.args.configuration c.if-names-gt-MAX_SWITCHES.false in
+    let high = high_number c.args.names.now c.args.configuration c.if-names-gt-MAX_SWITCHES.false c.if-configuration-names.true in
     beyond ns c.args.configuration c.args.source.now few c.if-not-all_distinct.ensures high
 
-pub returns-in-Err : goal.returns-in-Err
-returns-in-Err c =
+pub returns-in_err-check_size : goal.returns-in_err-check_size
+returns-in_err-check_size c =
+    let p = err_from_is_err_and c.from_residual.result c.from_residual.ensures.1 in
     let ns = texts c.args.names.now in
-    let few : length ns ≤ 24 = omega (arith, c.if-names-gt-MAX_SWITCHES.false, length_texts c.args.names.now) in
-    let low : c.args.configuration < 2 ^ length ns =
-    subst (λ (n : ℕ). c.args.configuration < 2 ^ n) (sym (length_texts c.args.names.now)) (omega (arith, c.if-configuration-names.false, shifted (length c.args.names.now) c.if-names-gt-MAX_SWITCHES.false)) in
-    too_large ns c.args.configuration c.args.source.now c.check_size.result c.in-Err.fault few c.if-not-all_distinct.ensures low c.check_size.ensures c.in-Err.is
+    let few = few_names c.args.names.now c.args.configuration c.if-names-gt-MAX_SWITCHES.false in
+    let low = low_number c.args.names.now c.args.configuration c.if-names-gt-MAX_SWITCHES.false c.if-configuration-names.false in
+    subst (Preprocesses ns c.args.configuration c.args.source.now) (sym (p.1 ∙ ap Err p.2))
+    (too_large ns c.args.configuration c.args.source.now c.check_size.result c.in_err-check_size.field-0.0 few c.if-not-all_distinct.ensures low c.check_size.ensures c.in_err-check_size.was)
 
-pub write_lines-requires : goal.write_lines-requires
-write_lines-requires c =
-    small c.args.source.now (right_size (is_too_large c.args.source.now) c.check_size.result c.in_default.field-0 c.check_size.ensures c.in_default.is)
-
-pub returns-in-Some : goal.returns-in-Some
-returns-in-Some c =
+-- the run before the first line
+begins : (c : After-new-3) → Going (wanted (texts c.args.names.now) c.args.configuration c.args.source.now)
+    (record { output = c.new-2.result; shape = c.in_ok-shape.shape; state = c.new-3.result }) (placed false 1 (lines c.args.source.now))
+begins c =
     let ns = texts c.args.names.now in
-    let few : length ns ≤ 24 = omega (arith, c.if-names-gt-MAX_SWITCHES.false, length_texts c.args.names.now) in
-    let low : c.args.configuration < 2 ^ length ns =
-    subst (λ (n : ℕ). c.args.configuration < 2 ^ n) (sym (length_texts c.args.names.now)) (omega (arith, c.if-configuration-names.false, shifted (length c.args.names.now) c.if-names-gt-MAX_SWITCHES.false)) in
-    let size = sized ns c.args.configuration c.args.source.now c.check_size.result c.in_default.field-0 few c.if-not-all_distinct.ensures low c.check_size.ensures c.in_default.is in
-    c.write_lines.ensures _
-    (first ns c.args.configuration c.args.source.now c.in-Some.shape c.new-state.result size
-    (starts ns c.args.configuration c.args.source.now c.in-Some.shape few c.in-Some.ensures) (c.new-state.ensures ns (length_texts c.args.names.now)))
+    let few = few_names c.args.names.now c.args.configuration c.if-names-gt-MAX_SWITCHES.false in
+    let low = low_number c.args.names.now c.args.configuration c.if-names-gt-MAX_SWITCHES.false c.if-configuration-names.false in
+    first ns c.args.configuration c.args.source.now _ c.new-2.ensures.items few
+    (sized ns c.args.configuration c.args.source.now c.check_size.result c.in_ok-check_size.field-0 few c.if-not-all_distinct.ensures low c.check_size.ensures c.in_ok-check_size.was)
+    (starts ns c.args.configuration c.args.source.now c.in_ok-shape.shape few (sym (ap start_of c.in_ok-shape.ensures.ok_part) ∙ c.new.ensures)) c.new-3.ensures
+
+pub returns-in_err-write_lines : goal.returns-in_err-write_lines
+returns-in_err-write_lines c =
+    let z = c.from_residual-in_err-write_lines in
+    let p = err_from_is_err_and z.result z.ensures.1 in
+    subst (Preprocesses (texts c.args.names.now) c.args.configuration c.args.source.now) (sym (p.1 ∙ ap Err p.2))
+    (c.in_err-write_lines.ensures _ (begins (goal.at.returns-in_err-write_lines c).After-new-3))
+
+pub returns : goal.returns
+returns c = c.in_ok-write_lines.ensures _ (begins (goal.at.returns c).After-new-3)

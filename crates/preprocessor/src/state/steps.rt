@@ -1,33 +1,48 @@
 // The state before the first line, and what a line does to it.
-ghost use Rattle.std.specs.Prelude.{◌≡◌, ◌<◌, List, [], ◌∷◌, length, if◌then◌else◌};
+ghost use Rattle.std.specs.Prelude.{◌≡◌, ◌<◌, List, [], ◌∷◌, length, if◌then◌else◌, false};
 ghost use Rattle.text.specs.Tokens.{Bytes};
-ghost use Rattle.names.specs.Names.{texts, index_of};
-ghost use Rattle.sources.specs.Classified.{Line as SourceLine, raw_of};
-ghost use Rattle.sources.specs.Answers.{shown, seen};
+ghost use Rattle.names.specs.Names.{texts};
+ghost use Rattle.stores.specs.Sets.{on};
+ghost use Rattle.expressions.specs.Grammar.{Expr};
+ghost use Rattle.expressions.specs.Conditions.{postfix};
+ghost use Rattle.expressions.specs.Truth.{truth as truth_of};
+ghost use Rattle.sources.specs.Classified.{Line as Defined, raw_of};
+ghost use Rattle.sources.specs.Answers.{steps_of, shown, seen};
+ghost use Rattle.truth.specs.Worked.{env_of};
 ghost use Rattle.preprocessor.specs.Plain.{State as PlainState, active as active_in, step as stepped, popped, kept, defined_in, began};
-ghost use Rattle.preprocessor.specs.Represented.{chains_of, Represents, Ready, marked, entered, continued};
+ghost use Rattle.preprocessor.specs.Represented.{chains_of, Represents, Ready, with_name, without_name, entered, continued};
 
-use crate::state::{Frame, MAX_CHAINS, MAX_NAMES, State};
+use crate::state::{Frame, State};
+use arrayvec::ArrayVec;
+use expressions::condition::Condition;
 use names::index_of;
 use sources::line::Line;
-use truth::holds;
+use truth::{holds, is_defined};
 
 // A configuration is a number of so many bits, one for each switch.
 const CONFIGURATION_BITS: usize = 32;
 
-impl State {
-    // Before the first line: the switches that are on in `configuration` are defined. Bit i of the number is switch i.
-    pub fn new(switches: usize, configuration: u32) -> State
-        ensures { (ns : List Bytes) → length ns ≡ switches → Represents ns result (began (defined_in ns configuration)) }
+// Is switch `i` on?
+fn is_on(configuration: u32, i: usize) -> bool
+    ensures { result ≡ on i configuration }
+{
+    i < CONFIGURATION_BITS && (configuration >> i) % 2 == 1
+}
+
+impl<'a> State<'a> {
+    // Before the first line: the switches that are on in `configuration` are defined. Of two with one name the first counts.
+    pub fn new(switches: &[&'a [u8]], configuration: u32) -> State<'a>
+        ensures { Represents (texts switches.now) result (began (defined_in (texts switches.now) configuration)) }
     {
-        let mut flags = [false; MAX_NAMES];
-        for i in 0..switches.min(CONFIGURATION_BITS) {
-            flags[i] = (configuration >> i) % 2 == 1;
+        let mut defined = ArrayVec::new();
+        for (i, name) in switches.iter().enumerate() {
+            if is_on(configuration, i) && index_of(&switches[..i], name).is_none() {
+                defined.push(*name);
+            }
         }
         State {
-            flags,
-            frames: [Frame::new(false, false); MAX_CHAINS],
-            depth: 0,
+            defined,
+            chains: ArrayVec::new(),
         }
     }
 
@@ -35,12 +50,12 @@ impl State {
     pub fn is_active(&self) -> bool
         ensures { result ≡ active_in (chains_of self.now) }
     {
-        self.depth == 0 || self.frames[self.depth - 1].active
+        self.chains.last().is_none_or(|chain| chain.active)
     }
 
     // Does `line` stand in the output? It does where it is active and not conditional.
     pub fn keeps(&self, line: &Line<'_>) -> bool
-        ensures { (σ : PlainState) (x : SourceLine) → chains_of self.now ≡ σ.stack → shown line.now ≡ seen x → kept σ x ≡ (if result then raw_of x ∷ [] else []) }
+        ensures { (σ : PlainState) (x : Defined) → chains_of self.now ≡ σ.stack → shown line.now ≡ seen x → kept σ x ≡ (if result then raw_of x ∷ [] else []) }
     {
         match line {
             Line::Plain | Line::Define(_) | Line::Undef(_) => self.is_active(),
@@ -48,67 +63,74 @@ impl State {
         }
     }
 
-    // `define` or `undef` of `name`, which acts only where active. Without an entry there is nothing to note.
-    fn define(&mut self, names: &[&[u8]], name: &[u8], value: bool)
-        ensures flags { self.new.flags ≡ (if active_in (chains_of self.old) then marked (index_of (texts names.now) name.now) value self.old.flags else self.old.flags) }
+    // `define` of `name`, which acts only where active. Where there is no room, nothing changes.
+    fn define(&mut self, name: &'a [u8])
+        ensures names { (env_of (texts self.old.defined.items) name.now ≡ false → length self.old.defined.items < 64)
+            → texts self.new.defined.items ≡ with_name (active_in (chains_of self.old)) name.now (texts self.old.defined.items) }
         ensures chains { chains_of self.new ≡ chains_of self.old }
     {
-        if !self.is_active() {
-            return;
+        if self.is_active() && !is_defined(name, &self.defined) {
+            let _ = self.defined.try_push(name);
         }
-        if let Some(i) = index_of(names, name) {
-            if i < MAX_NAMES {
-                self.flags[i] = value;
-            }
+    }
+
+    // `undef` of `name`, which acts only where active.
+    fn undefine(&mut self, name: &[u8])
+        ensures names { texts self.new.defined.items ≡ without_name (active_in (chains_of self.old)) name.now (texts self.old.defined.items) }
+        ensures chains { chains_of self.new ≡ chains_of self.old }
+    {
+        if self.is_active() {
+            self.defined.retain(|known| *known != name);
         }
     }
 
     // A chain opens with a block whose condition has the value `holds`. Where there is no room, nothing changes.
     fn enter(&mut self, holds: bool)
-        ensures flags { self.new.flags ≡ self.old.flags }
-        ensures chains { self.old.depth < 32 → chains_of self.new ≡ entered holds (chains_of self.old) }
+        ensures names { self.new.defined ≡ self.old.defined }
+        ensures chains { length self.old.chains.items < 32 → chains_of self.new ≡ entered holds (chains_of self.old) }
     {
-        if self.depth < MAX_CHAINS {
-            self.frames[self.depth] = Frame::new(self.is_active(), holds);
-            self.depth += 1;
-        }
+        let chain = Frame::new(self.is_active(), holds);
+        let _ = self.chains.try_push(chain);
     }
 
     // The next block of the innermost chain, which asks what has the value `holds`. Outside a chain nothing changes.
     fn proceed(&mut self, holds: bool)
-        ensures flags { self.new.flags ≡ self.old.flags }
+        ensures names { self.new.defined ≡ self.old.defined }
         ensures chains { chains_of self.new ≡ continued holds (chains_of self.old) }
     {
-        if self.depth > 0 {
-            let last = self.depth - 1;
-            self.frames[last] = self.frames[last].next(holds);
+        if let Some(chain) = self.chains.last_mut() {
+            *chain = chain.next(holds);
         }
     }
 
     // The innermost chain ends.
     fn leave(&mut self)
-        ensures flags { self.new.flags ≡ self.old.flags }
+        ensures names { self.new.defined ≡ self.old.defined }
         ensures chains { chains_of self.new ≡ popped (chains_of self.old) }
     {
-        if self.depth > 0 {
-            self.depth -= 1;
-        }
+        let _ = self.chains.pop();
     }
 
-    // What `line` does, where `names` are the names that have an entry behind it.
-    pub fn step(&mut self, line: &Line<'_>, names: &[&[u8]])
-        ensures { (σ : PlainState) (x : SourceLine) → shown line.now ≡ seen x → Ready (texts names.now) σ x → Represents (texts names.now) self.old σ → Represents (texts names.now) self.new (stepped σ x) }
+    fn holds(&self, condition: &Condition<'_>) -> bool
+        ensures { (e : Expr) → steps_of condition.now ≡ postfix e → result ≡ truth_of e (env_of (texts self.now.defined.items)) }
+    {
+        holds(condition, &self.defined)
+    }
+
+    // What `line` does.
+    pub fn step(&mut self, line: &Line<'a>)
+        ensures { (ns : List Bytes) (σ : PlainState) (x : Defined) → shown line.now ≡ seen x → Ready ns σ x → Represents ns self.old σ → Represents ns self.new (stepped σ x) }
     {
         match line {
             Line::Plain => {}
-            Line::Define(name) => self.define(names, name, true),
-            Line::Undef(name) => self.define(names, name, false),
+            Line::Define(name) => self.define(name),
+            Line::Undef(name) => self.undefine(name),
             Line::If(condition) => {
-                let value = holds(condition, names, &self.flags);
+                let value = self.holds(condition);
                 self.enter(value);
             }
             Line::Elif(condition) => {
-                let value = holds(condition, names, &self.flags);
+                let value = self.holds(condition);
                 self.proceed(value);
             }
             Line::Else => self.proceed(true),

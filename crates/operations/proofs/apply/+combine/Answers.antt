@@ -40,12 +40,12 @@ returns-in-Some t c =
 pub recall-requires : goal.recall-requires
 recall-requires t c =
     let z = known_none c.args.op c.args.a c.args.b (sym c.known.ensures ∙ c.in_default.is) in
-    record { formed = c.requires.formed; remembers = c.requires.remembers; a = (c.requires.a, z.0); b = c.requires.b }
+    record { remembers = c.requires.remembers; a = (c.requires.a, z.0); b = c.requires.b }
 
 pub take_apart-p-requires : goal.take_apart-p-requires
 take_apart-p-requires t c =
     let z = known_none c.args.op c.args.a c.args.b (sym c.known.ensures ∙ c.in_default.is) in
-    (c.requires.formed, (c.requires.a, (c.requires.b, z.1)))
+    (c.requires.a, (c.requires.b, z.1))
 
 pub returns-in-Some-recall : goal.returns-in-Some-recall
 returns-in-Some-recall t c =

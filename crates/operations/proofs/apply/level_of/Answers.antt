@@ -1,5 +1,5 @@
 use Rattle.std.proofs.Common.{arith}
-use Rattle.operations.proofs.Levels.{level_end, level_word, level_most}
+use Rattle.operations.proofs.Levels.{level_end, level_read, level_most}
 use Rattle.operations.proofs.apply.level_of.Goals as goal
 
 pub returns-then-cell-lt-FLOOR : goal.returns-then-cell-lt-FLOOR
@@ -7,5 +7,5 @@ returns-then-cell-lt-FLOOR c = record { is = level_end _ c.args.cell c.if-cell-l
 
 pub returns-else-cell-lt-FLOOR : goal.returns-else-cell-lt-FLOOR
 returns-else-cell-lt-FLOOR c =
-    let e = level_word c.args.words.now c.args.cell c.if-cell-lt-FLOOR.false c.requires.1 in
-    record { is = e; within = omega (arith, e, level_most c.args.words.now c.requires.0 c.args.cell c.requires.1) }
+    let e = level_read c.args.cells.now.words.now c.args.cell _ c.node.ensures c.if-cell-lt-FLOOR.false c.requires in
+    record { is = e; within = omega (arith, e, level_most c.args.cells.now.words.now c.args.cells.now.formed c.args.cell c.requires) }

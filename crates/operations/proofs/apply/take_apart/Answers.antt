@@ -32,28 +32,28 @@ falls ws a b m s ha hb two e =
 
 pub overflow_sub-switch : goal.overflow_sub-switch
 overflow_sub-switch c =
-    let t = top c.args.words.now c.args.a c.args.b c.max-switch.result c.requires.0 c.requires.1.0 c.requires.1.1.0 c.requires.1.1.1
+    let t = top c.args.cells.now.words.now c.args.a c.args.b c.max-switch.result c.args.cells.now.formed c.requires.0 c.requires.1.0 c.requires.1.1
     (omega (arith, c.max-switch.ensures, c.level_of.ensures.is, c.level_of-2.ensures.is)) in
     t.0
 
 pub sides_at-requires : goal.sides_at-requires
 sides_at-requires c =
-    let t = top c.args.words.now c.args.a c.args.b c.max-switch.result c.requires.0 c.requires.1.0 c.requires.1.1.0 c.requires.1.1.1
+    let t = top c.args.cells.now.words.now c.args.a c.args.b c.max-switch.result c.args.cells.now.formed c.requires.0 c.requires.1.0 c.requires.1.1
     (omega (arith, c.max-switch.ensures, c.level_of.ensures.is, c.level_of-2.ensures.is)) in
-    (c.requires.0, (c.requires.1.0, t.1))
+    (c.requires.0, t.1)
 
 pub sides_at-requires-2 : goal.sides_at-requires-2
 sides_at-requires-2 c =
-    let t = top c.args.words.now c.args.a c.args.b c.max-switch.result c.requires.0 c.requires.1.0 c.requires.1.1.0 c.requires.1.1.1
+    let t = top c.args.cells.now.words.now c.args.a c.args.b c.max-switch.result c.args.cells.now.formed c.requires.0 c.requires.1.0 c.requires.1.1
     (omega (arith, c.max-switch.ensures, c.level_of.ensures.is, c.level_of-2.ensures.is)) in
-    (c.requires.0, (c.requires.1.1.0, t.1))
+    (c.requires.1.0, t.1)
 
 pub returns : goal.returns
 returns c =
-    let ws : List ℕ = c.args.words.now in
+    let ws : List ℕ = c.args.cells.now.words.now in
     let e : c.max-switch.result ≡ max (level (cells_of ws) c.args.a) (level (cells_of ws) c.args.b) = omega (arith, c.max-switch.ensures, c.level_of.ensures.is, c.level_of-2.ensures.is) in
-    let t = top ws c.args.a c.args.b c.max-switch.result c.requires.0 c.requires.1.0 c.requires.1.1.0 c.requires.1.1.1 e in
-    let f = falls ws c.args.a c.args.b c.max-switch.result c.requires.0 c.requires.1.0 c.requires.1.1.0 c.requires.1.1.1 e in
+    let t = top ws c.args.a c.args.b c.max-switch.result c.args.cells.now.formed c.requires.0 c.requires.1.0 c.requires.1.1 e in
+    let f = falls ws c.args.a c.args.b c.max-switch.result c.args.cells.now.formed c.requires.0 c.requires.1.0 c.requires.1.1 e in
     let la = c.sides_at.ensures.low in let ha = c.sides_at.ensures.high in
     let lb = c.sides_at-2.ensures.low in let hb = c.sides_at-2.ensures.high in
     record {

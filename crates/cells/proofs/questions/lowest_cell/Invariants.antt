@@ -1,8 +1,0 @@
-use Rattle.cells.specs.Words.{Descending}
-use Rattle.cells.proofs.questions.lowest_cell.Given as goal
-
-abbrev pub invariant-loop-at : goal.invariant-loop-at
-invariant-loop-at l = Descending l.words l.cell l.at l.k
-
-abbrev pub decreases-loop-at : goal.decreases-loop-at
-decreases-loop-at l = l.at

@@ -1,4 +1,0 @@
-use Rattle.diagram_bench.proofs.work.majority.Given as goal
-
-abbrev pub invariant-loop-i : goal.invariant-loop-i
-invariant-loop-i g l = g.S.Store.valid l.store
