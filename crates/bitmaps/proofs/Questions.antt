@@ -1,6 +1,11 @@
 -- Reading slots.
-use Rattle.std.proofs.Common.{◌≡◌, ℕ, ◌+◌, ◌-◌, ◌*◌, ◌/◌, ◌%◌, ◌^◌, ◌<◌, ◌≤◌, Bool, true, false, ◌&&◌, ltb, List, length, get_or, Option, sym, ap, ◌∙◌, subst, ⊎_elim, arith, pow_mono, pow-add}
+use Rattle.std.proofs.Common.{◌≡◌, ℕ, ◌+◌, ◌-◌, ◌*◌, ◌/◌, ◌%◌, ◌^◌, ◌<◌, ◌≤◌, Bool, true, false, not, ◌&&◌, eqb, ltb, List, length, get_or, take, drop, Some, None, Option, sym, ap, ◌∙◌, subst, ⊎_elim, arith, length-take-le, length-drop, get_or-take, pow_mono, pow-add}
 use lib.Count.{count_trailing_zeros}
+use Rattle.std.specs.List.{position, position_or_len}
+use Rattle.std.proofs.lemmas.Grind.{common_steps}
+use Rattle.std.proofs.lemmas.List.{get_or-drop}
+use Rattle.std.proofs.lemmas.List.Quantifiers.{position-Some}
+use Rattle.std.proofs.lemmas.List.Sums.{fails_before_first}
 use Rattle.std.proofs.lemmas.Nat.{one_shl}
 use Rattle.std.proofs.lemmas.Bool.{cases_lt, lt-ltb, and_from, and_right}
 use Rattle.stores.specs.Sets.{Set, empty, on, Empty, Lowest, LowestIf}
@@ -84,6 +89,42 @@ module _ (n : ℕ) (ws : List ℕ) (j : ℕ) where
           within = and_from (ltb k (2 ^ n)) _ (lt-ltb k (2 ^ n) k_within) k_on;
           first = λ i h. and_right (ltb i (2 ^ n)) _ (k_first i h);
         }
+
+-- a word that is not 0
+abbrev pub filled : ℕ → Bool
+filled x = not (eqb x 0)
+
+filled_false : (x : ℕ) → filled x ≡ false → x ≡ 0
+filled_false x e = grind (arith, common_steps)
+
+filled_true : (x : ℕ) → filled x ≡ true → 0 < x
+filled_true x e = grind (arith, common_steps)
+
+-- the first word of a slot that is not 0, where the slot begins at f and has w words
+module _ (n : ℕ) (ws : List ℕ) (j f w : ℕ) (fs : f ≡ start n j) (wide : w ≡ width n) (fits : start n j + width n ≤ length ws) where
+  abbrev words : List ℕ
+  words = take (f + w - f) (drop f ws)
+
+  words_len : length words ≡ width n
+  words_len = length-take-le (f + w - f) (drop f ws) (omega (arith, length-drop f ws, fs, wide, fits)) ∙ omega (arith, wide)
+
+  word_at : (t : ℕ) → t < width n → get_or words t 0 ≡ get_or ws (start n j + t) 0
+  word_at t h = get_or-take (f + w - f) (drop f ws) t 0 (omega (arith, wide, h)) ∙ get_or-drop f ws t 0 ∙ ap (λ (i : ℕ). get_or ws (i + t) 0) fs
+
+  pub search_none : position filled words ≡ None → Empty (slot n ws j)
+  search_none e =
+      let all : length words ≤ position_or_len filled words = grind (arith, common_steps) in
+      lowest_none n ws j (λ t h. sym (word_at t h) ∙ filled_false _ (fails_before_first filled words t 0 (omega (arith, all, words_len, h))))
+
+  pub search_found : (t : ℕ) → ((i : ℕ) → 2 ≤ i → i < start n j + width n → get_or ws i 0 < 2 ^ used n) → position filled words ≡ Some t
+      → Lowest (slot n ws j) (t * 64 + count_trailing_zeros 64 (get_or words t 0))
+  search_found t unused e =
+      let p = position-Some filled words t 0 e in
+      let lt : t < width n = omega (arith, p.0, words_len) in
+      let at = word_at t lt in
+      let small : get_or words t 0 < 2 ^ used n = subst (λ (x : ℕ). x < 2 ^ used n) (sym at) (unused (start n j + t) (omega arith) (omega (arith, lt))) in
+      lowest_found n ws j t (get_or words t 0) lt at (filled_true _ p.1) small
+      (λ s h. sym (word_at s (omega (arith, h, lt))) ∙ filled_false _ (p.2 s h))
 
 -- the bit of a configuration
 pub held_bit : (ws : List ℕ) (a k : ℕ) → a < get_or ws 1 0 → k < 2 ^ (get_or ws 0 0) → on (k % 64) (get_or ws (start (get_or ws 0 0) a + k / 64) 0) ≡ set_at (means ws) a k

@@ -4,6 +4,8 @@ ghost use Rattle.stores.specs.Sets.{LowestIf};
 ghost use Rattle.bitmaps.specs.Layout.{width, used, full, slots, start};
 ghost use Rattle.bitmaps.specs.Meaning.{slot, Held};
 
+// Each format of a store fixes its own numbers, also where two agree.
+
 // The most switches that a bitmap store admits.
 pub const MAX_SWITCHES: u32 = 10;
 
@@ -100,12 +102,9 @@ impl Slots<'_> {
         requires { j < slice_index self.now.words.now 1 }
         ensures { LowestIf (slot self.now.switches.n self.now.words.now j) result }
     {
-        for t in 0..self.switches.slot_words() {
-            let word = self.word(j, t);
-            if word != 0 {
-                return Some(t as u32 * WORD_BITS + word.trailing_zeros());
-            }
-        }
-        None
+        let from = self.switches.start(j);
+        let slot = &self.words[from..from + self.switches.slot_words()];
+        let t = slot.iter().position(|word| *word != 0)?;
+        Some(t as u32 * WORD_BITS + slot[t].trailing_zeros())
     }
 }

@@ -65,7 +65,7 @@ impl Operation {
         }
     }
 
-    // Writes that set into the first free slot.
+    // Writes that set into the first free slot. Takes the bare words, as `append` and `cut_slots` do: between their writes no store is in order.
     fn write(self, words: &mut [u64])
         requires valid { Valid words.old }
         requires operands { Operands (slice_index words.old 0) (slice_index words.old 1) self }

@@ -20,7 +20,7 @@ pub enum JudgingFault {
 }
 
 impl JudgingFault {
-    // The refusal, if it is one: want of memory says nothing of the text.
+    // The refusal, if it is one: want of memory says nothing of the text. So it is no From.
     pub fn refusal(self) -> Option<Refusal>
         ensures { result ≡ described self }
     {

@@ -21,7 +21,7 @@ impl From<StoreFault> for LayerFault {
     }
 }
 
-// A layer is made outside the lines, so no refusal names one.
+// A layer is made outside the lines, so no refusal names one. The number is the format's.
 impl From<LayerFault> for Refusal {
     ghost use Rattle.layers.specs.Faults.{described};
 

@@ -22,7 +22,7 @@ pub enum PreprocessingFault {
 }
 
 impl PreprocessingFault {
-    // The refusal, if it is one: want of memory says nothing of the source.
+    // The refusal, if it is one: want of memory says nothing of the source. So it is no From. The numbers are the format's, in this table alone.
     pub fn refusal(self) -> Option<Refusal>
         ensures { result ≡ described self }
     {

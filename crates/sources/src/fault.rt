@@ -60,6 +60,7 @@ impl From<ConditionalFault> for SourceFault {
     }
 }
 
+// The numbers are the format's. They stand in this table alone, since a case with a line in it has no number of its own.
 impl From<LineFault> for Refusal {
     ghost from_gives = { λ f r. r ≡ line_fault f };
 
@@ -79,6 +80,7 @@ impl From<LineFault> for Refusal {
     }
 }
 
+// The numbers are the format's. They stand in this table alone, since a case with a line in it has no number of its own.
 impl From<ConditionalFault> for Refusal {
     ghost from_gives = { λ f r. r ≡ conditional_fault f };
 

@@ -1,4 +1,4 @@
-// Why a store refuses, by rising number.
+// Why a store refuses, by rising number, which the format gives.
 ghost use Rattle.std.specs.Prelude.{◌≡◌};
 ghost use Rattle.stores.specs.Faults.{described};
 
@@ -7,34 +7,30 @@ use faults::{Layer, Refusal};
 #[derive(Clone, Copy, PartialEq, Eq, Debug)]
 pub enum StoreFault {
     // the switch is not one of the store's
-    NoSwitch,
+    NoSwitch = 1,
     // no set is held under the number
-    NoNumber,
+    NoNumber = 2,
     // the operation needs more places than are free
-    Full,
+    Full = 3,
     // the configuration is 2^n or above
-    NoConfiguration,
+    NoConfiguration = 4,
     // the memory handed in holds fewer than two sets
-    TooSmall,
+    TooSmall = 6,
     // more switches than this sort of store admits
-    TooManySwitches,
+    TooManySwitches = 7,
 }
 
 impl StoreFault {
-    // The refusal while line `line` is being read, 0 outside the lines: only a full store names it.
+    // The refusal while line `line` is being read, 0 outside the lines: only a full store names it. No From, since it takes the line.
     pub fn refusal(self, line: usize) -> Refusal
         ensures { result ≡ described self line }
     {
-        let (number, line) = match self {
-            StoreFault::NoSwitch => (1, 0),
-            StoreFault::NoNumber => (2, 0),
-            StoreFault::Full => (3, line),
-            StoreFault::NoConfiguration => (4, 0),
-            StoreFault::TooSmall => (6, 0),
-            StoreFault::TooManySwitches => (7, 0),
+        let line = match self {
+            StoreFault::Full => line,
+            _ => 0,
         };
         Refusal {
-            number,
+            number: self as u32,
             layer: Layer::Store,
             line,
             byte: 0,

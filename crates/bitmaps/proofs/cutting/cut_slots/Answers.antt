@@ -1,11 +1,6 @@
 use Rattle.std.proofs.Common.{ℕ, set, ap, ◌∙◌, arith}
-use Rattle.bitmaps.proofs.Cuts.{cut_range, written_cut}
+use Rattle.bitmaps.proofs.Cuts.{written_cut}
 use Rattle.bitmaps.proofs.cutting.cut_slots.Goals as goal
-
-pub fill-requires : goal.fill-requires
-fill-requires c =
-    let p = cut_range c.args.words.now c.requires.valid c.args.kept (omega (arith, c.requires.kept.1)) in
-    (omega (arith, c.start.ensures, c.start-2.ensures, p.0), omega (arith, c.start-2.ensures, p.1))
 
 pub returns : goal.returns
 returns c =

@@ -1,24 +1,7 @@
 use Rattle.std.proofs.Common.{◌≡◌, ◌≤◌, length, set, ap, ◌∙◌, zero-le, arith}
 use Rattle.bitmaps.specs.Layout.{slots, start}
-use Rattle.bitmaps.specs.Cutting.{starts}
-use Rattle.bitmaps.proofs.Makings.{all_within, none_due, written_new}
+use Rattle.bitmaps.proofs.Makings.{none_due, written_new}
 use Rattle.bitmaps.proofs.making.prepare.Goals as goal
-
-pub fill-requires : goal.fill-requires
-fill-requires c =
-    let n = c.args.n in
-    let len = length c.args.words.now in
-    let end : c.start.result ≡ start n (slots len n) = c.start.ensures ∙ ap (start n) c.capacity-slots.ensures in
-    (zero-le, omega (arith, end, all_within len n (omega (arith, c.if-slots-lt-FLOOR.false, c.capacity-slots.ensures))))
-
-pub fill-requires-2 : goal.fill-requires-2
-fill-requires-2 c =
-    let n = c.args.n in
-    let len = length c.args.words.now in
-    let two : 2 ≤ slots len n = omega (arith, c.if-slots-lt-FLOOR.false, c.capacity-slots.ensures) in (
-      omega (arith, c.start-2.ensures, c.start-3.ensures, starts n 1 2 (omega arith)),
-      omega (arith, c.start-3.ensures, c.fill.auto.words, all_within len n two, starts n 2 (slots len n) two),
-    )
 
 pub returns : goal.returns
 returns c =
