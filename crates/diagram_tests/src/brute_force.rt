@@ -126,6 +126,7 @@ fn joined(connective: Connective, a: &Table, b: &Table) -> Table {
 }
 
 // The open marks: the newer one is open only if the older one is.
+#[derive(Default)]
 struct Marks {
     older: Option<Mark>,
     newer: Option<Mark>,
@@ -163,13 +164,7 @@ fn newest(marks: Marks) -> (Option<Mark>, Marks) {
     let Marks { older, newer } = marks;
     match newer {
         Some(mark) => (Some(mark), Marks { older, newer: None }),
-        None => (
-            older,
-            Marks {
-                older: None,
-                newer: None,
-            },
-        ),
+        None => (older, Marks::default()),
     }
 }
 
@@ -190,10 +185,7 @@ fn change_marks<S: Store>(store: &mut S, marks: Marks, act: Act) -> Marks {
             let Marks { older, newer } = marks;
             release(store, older);
             release(store, newer);
-            Marks {
-                older: None,
-                newer: None,
-            }
+            Marks::default()
         }
         _ => marks,
     }
@@ -211,10 +203,7 @@ fn ask<S: Store>(store: &mut S, act: Act) -> Result<u32, StoreFault> {
 // The answer to the last act, after all before it.
 fn replay<S: Store>(store: &mut S, acts: &[Act]) -> Result<u32, StoreFault> {
     let mut answer = Ok(0);
-    let mut marks = Marks {
-        older: None,
-        newer: None,
-    };
+    let mut marks = Marks::default();
     for act in acts {
         answer = ask(store, *act);
         marks = change_marks(store, marks, *act);
@@ -263,7 +252,7 @@ fn any_act(dice: &mut Dice, n: u32, held: u32) -> Act {
 }
 
 // How often each kind of outcome was met.
-#[derive(Drop)]
+#[derive(Drop, Default)]
 struct Tally {
     cases: u32,
     grown: u32,
@@ -296,18 +285,18 @@ struct Model {
     newer: Option<Point>,
 }
 
-fn new_model(heap: Global, n: u32, capacity: usize) -> Result<Model, Fail> {
-    Ok(Model {
-        n,
-        capacity,
-        tables: vec![in heap; [0; TABLE_WORDS], those(n, |_| true)]?,
-        kept: Vec::new(heap),
-        older: None,
-        newer: None,
-    })
-}
-
 impl Model {
+    fn new(heap: Global, n: u32, capacity: usize) -> Result<Self, Fail> {
+        Ok(Model {
+            n,
+            capacity,
+            tables: vec![in heap; [0; TABLE_WORDS], those(n, |_| true)]?,
+            kept: Vec::new(heap),
+            older: None,
+            newer: None,
+        })
+    }
+
     fn held(&self) -> u32 {
         u32::try_from(self.tables.len()).unwrap_or(u32::MAX)
     }
@@ -527,7 +516,7 @@ impl<R: Abort> Run<'_, R> {
 
     // One list of acts. After each of them every word is as after the kept operations alone, so a refusal and a release leave no trace.
     fn check_list(&mut self, n: u32, capacity: u32) -> Result<(), Fail> {
-        let mut model = new_model(self.heap, n, capacity as usize)?;
+        let mut model = Model::new(self.heap, n, capacity as usize)?;
         let mut acts = Vec::new(self.heap);
         for _ in 0..ACTS {
             let act = any_act(&mut self.dice, n, model.held());
@@ -558,15 +547,7 @@ fn agrees_with_truth_tables(rt: HostRuntime) -> Result<(), Fail> {
         dice: Dice {
             state: 2_463_534_242,
         },
-        tally: Tally {
-            cases: 0,
-            grown: 0,
-            found: 0,
-            no_switch: 0,
-            no_number: 0,
-            full: 0,
-            released: 0,
-        },
+        tally: Tally::default(),
     };
     for n in 0..=MOST_SWITCHES {
         for _ in 0..LISTS {
