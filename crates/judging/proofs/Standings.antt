@@ -1,5 +1,5 @@
 -- One more switch judged.
-use Rattle.std.proofs.Common.{◌≡◌, ℕ, ◌+◌, ◌-◌, ◌^◌, ◌<◌, min, ◌≤◌, Bool, true, false, ◌&&◌, List, [], ◌∷◌, ◌++◌, length, get_or, is_err, IfOk, Some, Ok, Err, Option, Result, sym, refl, ap, ◌∙◌, subst, ⊎_elim, arith, length-append}
+use Rattle.std.proofs.Common.{◌≡◌, ℕ, ◌+◌, ◌-◌, ◌^◌, ◌<◌, min, ◌≤◌, Bool, true, false, ◌&&◌, List, [], ◌∷◌, ◌++◌, length, get_or, Some, Ok, Err, Option, Result, sym, refl, ap, ◌∙◌, subst, ⊎_elim, arith, length-append}
 use mathlib.Core.Path.{fun_ext}
 use lib.ListN.{get_or-append}
 use lib.Seq.{get_or-append_seam}
@@ -14,9 +14,6 @@ use Rattle.standing.specs.declared.verdict.Standing.TheVariants.{Free}
 use Rattle.standing.specs.Standing.{Stands}
 use Rattle.judging.specs.Judged.{AllStand, Judged}
 
-pub stand_none : (A : Set) (vs : List Standing) → vs ≡ [] → AllStand A 0 vs
-stand_none A vs e = (ap length e, λ i h. absurd (omega (arith, h)))
-
 pub stand_more : (A : Set) (n : ℕ) (vs ws : List Standing) (v : Standing) → ws ≡ vs ++ v ∷ [] → AllStand A n vs → Stands A n v → AllStand A (n + 1) ws
 stand_more A n vs ws v e h s = (
   ap length e ∙ (let z : length (vs ++ v ∷ []) ≡ n + 1 = omega (arith, length-append vs (v ∷ []), h.0) in z),
@@ -28,11 +25,6 @@ stand_more A n vs ws v e h s = (
       subst (λ (j : ℕ). Stands A i (get_or (vs ++ v ∷ []) j Free)) at (subst (Stands A i) (sym (get_or-append_seam vs v [] Free)) (subst (λ (j : ℕ). Stands A j v) is s)))
       (cases_lt i (length vs))),
 )
-
--- of a refusal nothing is claimed
-pub refused_made : {X Y : Type 0} (r : Result X Y) (P : X → Type 0) → is_err r ≡ true → IfOk r P
-refused_made (Ok x) P e = let z : ◌≡◌ {A = ℕ} 0 1 = cc in absurd (omega arith)
-refused_made (Err y) P e = tt
 
 -- what a layer over the rules' set allows
 meet_within : (a s : Bool) → (a && (a && s)) ≡ (a && s)

@@ -1,8 +1,9 @@
 -- The loop over `switch` lines.
-use Rattle.std.proofs.Common.{◌≡◌, ℕ, false, List, [], ◌∷◌, ◌++◌, length, Ok, Result, sym, refl, ap, ◌∙◌, arith, Bor}
+use Rattle.std.proofs.Common.{◌≡◌, ℕ, false, List, [], ◌∷◌, ◌++◌, Ok, Result, sym, ap, ◌∙◌, Bor}
 use Rattle.faults.specs.declared.Refusal.{Refusal}
 use Rattle.lines.specs.Lines.{until_feed, past_feed, lines_of, FirstLine}
 use Rattle.names.specs.Names.{texts}
+use Rattle.names.proofs.Turns.{texts_append}
 use Rattle.text.specs.Tokens.{Bytes}
 use Rattle.expressions.specs.Conditions.{only_name}
 use Rattle.expressions.specs.Placed.{read_in}
@@ -32,14 +33,6 @@ module _ (names : List Bytes) (l l' : ℕ) (rest line behind : Bytes) (first : F
       by_kind_is (Switch from) e
       ∙ ap (λ (ns : List Bytes). named ns l' next (read_in line l' (only_name false line from))) (sym s) ∙ h next ∙ ap (λ (ns : List Bytes). next (ns ++ x ∷ [])) s ∙ ap next (sym q)
 
-pub declared_end : (names : List Bytes) (l : ℕ) (rest : Bytes) → length rest ≡ 0 → declared names l rest (lines_of rest) ≡ Ok (record { names = names; lines = l; rest = rest })
-declared_end names l [] e = refl
-declared_end names l (x ∷ rest) e = absurd (omega arith)
-
 -- one more name
-texts_append : (ns : List (Bor Bytes)) (x : Bor Bytes) → texts (ns ++ x ∷ []) ≡ texts ns ++ x.now ∷ []
-texts_append [] x = refl
-texts_append (n ∷ ns) x = ap (λ (l : List Bytes). n.now ∷ l) (texts_append ns x)
-
 pub texts_more : (ns ms : List (Bor Bytes)) (x : Bor Bytes) → ms ≡ ns ++ x ∷ [] → texts ms ≡ texts ns ++ x.now ∷ []
-texts_more ns ms x e = ap texts e ∙ texts_append ns x
+texts_more ns ms x e = ap texts e ∙ texts_append ns (x ∷ [])

@@ -138,9 +138,6 @@ pub record Numbers (m : Model) (A : Set) (ns : List ℕ) : Type 0 where
   pub same : m.allowed ≡ A
   pub sets : (i : ℕ) → i < length ns → Denotes m (get_or ns i 0) (A ∩ on i)
 
-numbers_later : {m m' : Model} {more : ℕ} {A : Set} {ns : List ℕ} → Appended m m' more → Numbers m A ns → Numbers m' A ns
-numbers_later g n = record { same = g.same.allowed ∙ n.same; sets = λ i h. denotes_later g (n.sets i h) }
-
 numbers_more : {m m' : Model} {A : Set} {ns : List ℕ} (more i c : ℕ) → Appended m m' more → Numbers m A ns → i ≡ length ns → Denotes m' c (m.allowed ∩ on i) → Numbers m' A (ns ++ c ∷ [])
 numbers_more {m} {m'} {A} {ns} more i c g n e d =
     record {
@@ -156,7 +153,7 @@ numbers_more {m} {m'} {A} {ns} more i c g n e d =
     }
 
 none_some : (i : ℕ) → ◌≡◌ {A = Option ℕ} None (Some i) → ⊥
-none_some i e = let z : ◌≡◌ {A = ℕ} 0 1 = cc in omega arith
+none_some i e = cc
 
 -- a place found is within the list
 index_within : (ns : List Bytes) (x : Bytes) (j i : ℕ) → index_from j ns x ≡ Some i → i < j + length ns

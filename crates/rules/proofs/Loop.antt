@@ -1,5 +1,5 @@
 -- The loop over rule lines.
-use Rattle.std.proofs.Common.{◌≡◌, ℕ, ◌<◌, List, [], ◌∷◌, length, Some, None, Ok, Err, Option, Result, sym, refl, subst, arith}
+use Rattle.std.proofs.Common.{◌≡◌, ℕ, ◌<◌, List, length, Some, None, Ok, Option, Result, sym, subst}
 use Rattle.faults.specs.declared.Refusal.{Refusal}
 use Rattle.stores.specs.Model.{Model}
 use Rattle.stores.specs.Outcome.{Op}
@@ -8,9 +8,6 @@ use Rattle.lines.specs.Lines.{Line, until_feed, past_feed, lines_of, FirstLine}
 use Rattle.text.specs.Tokens.{Bytes}
 use Rattle.evaluation.specs.declared.Evaluator.{Evaluator}
 use Rattle.rules.specs.declared.entries.Switches.{Switches}
-use Rattle.rulelines.specs.declared.fault.RuleFault.{RuleFault}
-use Rattle.rulelines.specs.declared.fault.RuleFault.TheVariants.{NoBegin}
-use Rattle.rulelines.specs.Faults.{described}
 use Rattle.rulelines.specs.Kinds.{kind_of, next_line}
 use Rattle.rules.specs.Ruled.{Answer, by_kind, ruling}
 use Rattle.rules.specs.Read.{names, lookup, lined}
@@ -22,9 +19,6 @@ module _ {S : Type 0} (model : S → Model) (rollback : S → ℕ → S) (need :
   GoesOn acc l rest s =
       (s' : S) (r : Result Answer Refusal) → Runs model rollback need (ruling (names rd) (lookup rd) rd.known.none rd.known.top acc l (lines_of rest)) s s' r
       → Runs model rollback need (ruling (names rd) (lookup rd) rd.known.none rd.known.top rd.known.top l₀ (lines_of text)) s₀ s' r
-
-  pub goes_start : GoesOn rd.known.top l₀ text s₀
-  goes_start s' r h = h
 
   -- the first line and those behind it
   abbrev first-steps : ℕ → ℕ → Bytes → Bytes → Steps Answer Refusal
@@ -53,16 +47,6 @@ module _ {S : Type 0} (model : S → Model) (rollback : S → ℕ → S) (need :
       → Runs model rollback need (ruling (names rd) (lookup rd) rd.known.none rd.known.top rd.known.top l₀ (lines_of text)) s₀ s₁ (Ok (acc, behind))
   goes_last acc l l' rest line behind s s₁ some first e f q go t =
       go s₁ (Ok (acc, behind)) (split acc l l' rest line behind s s₁ (Ok (acc, behind)) some first e f q (t behind (λ x. ruling (names rd) (lookup rd) rd.known.none rd.known.top x l' (lines_of behind))))
-
-  pub goes_refused : (acc l l' : ℕ) (rest line behind : Bytes) (g : RuleFault) (s s₁ : S) → 0 < length rest → FirstLine rest → line ≡ until_feed rest → behind ≡ past_feed rest → l' ≡ next_line l
-      → GoesOn acc l rest s → ((b : Bytes) → Turned model rollback need (by_kind (kind_of line) (names rd) (lookup rd) rd.known.none rd.known.top acc l' (lined line b)) acc b s s₁ (Err g))
-      → Runs model rollback need (ruling (names rd) (lookup rd) rd.known.none rd.known.top rd.known.top l₀ (lines_of text)) s₀ s₁ (Err (described g))
-  goes_refused acc l l' rest line behind g s s₁ some first e f q go t =
-      go s₁ (Err (described g)) (split acc l l' rest line behind s s₁ (Err (described g)) some first e f q (t behind (λ x. ruling (names rd) (lookup rd) rd.known.none rd.known.top x l' (lines_of behind))))
-
-  pub goes_end : (acc l : ℕ) (rest : Bytes) (s : S) → length rest ≡ 0 → GoesOn acc l rest s → Runs model rollback need (ruling (names rd) (lookup rd) rd.known.none rd.known.top rd.known.top l₀ (lines_of text)) s₀ s (Err (described NoBegin))
-  goes_end acc l [] s e go = go s (Err (described NoBegin)) (refl, refl)
-  goes_end acc l (x ∷ rest) s e go = absurd (omega arith)
 
 -- a turn that is known
 pub turned_by : {S : Type 0} (model : S → Model) (rollback : S → ℕ → S) (need : S → Op → ℕ) (rd : Evaluator Switches) (acc l : ℕ) (line : Bytes) (s s₁ : S) (t u : Option ℕ) → t ≡ u

@@ -14,8 +14,9 @@ length_texts (r ∷ ns) = ap Prim.Native.Nat.suc (length_texts ns)
 pub when_true : (b : Bool) (X Y : Type 0) → true ≡ b → X → cond b X Y
 when_true b X Y e x = subst (λ (t : Bool). cond t X Y) e x
 
-pub when_false : (b : Bool) (X Y : Type 0) → false ≡ b → Y → cond b X Y
-when_false b X Y e y = subst (λ (t : Bool). cond t X Y) e y
+-- the test of the names, told of the number of switches that the store means
+pub fits_of : (ns : List Bytes) (b : Bool) (c n : ℕ) → c ≡ n → b ≡ (eqb (length ns) c && distinct ns) → b ≡ (eqb (length ns) n && distinct ns)
+fits_of ns b c n e h = subst (λ (m : ℕ). b ≡ (eqb (length ns) m && distinct ns)) e h
 
 and_first : (b c : Bool) → true ≡ (b && c) → b ≡ true
 and_first true c e = refl

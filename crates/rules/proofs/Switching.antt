@@ -24,10 +24,6 @@ module _ {S : Type 0} (model : S → Model) (rollback : S → ℕ → S) (need :
   GoesOn i ns s =
       (s' : S) (r : Result (List ℕ) Refusal) → Runs model rollback need (switching (n - i) i ns done) s s' r → Runs model rollback need (switching n 0 [] done) s₀ s' r
 
-  pub goes_start : (vs : List ℕ) → vs ≡ [] → GoesOn 0 vs s₀
-  goes_start vs e s' r h =
-      subst (λ (j : ℕ). Runs model rollback need (switching j 0 [] done) s₀ s' r) (let z : n - 0 ≡ n = omega arith in z) (subst (λ (l : List ℕ). Runs model rollback need (switching (n - 0) 0 l done) s₀ s' r) e h)
-
   one : (i : ℕ) (ns : List ℕ) (s s' : S) (r : Result (List ℕ) Refusal) → i < n
       → Runs model rollback need (ask (switch i) (λ f. store f 0) (λ c. switching (n - (i + 1)) (i + 1) (ns ++ c ∷ []) done)) s s' r → Runs model rollback need (switching (n - i) i ns done) s s' r
   one i ns s s' r lt h = subst (λ (j : ℕ). Runs model rollback need (switching j i ns done) s s' r) (let z : suc (n - (i + 1)) ≡ n - i = omega arith in z) h
@@ -44,10 +40,6 @@ module _ {S : Type 0} (model : S → Model) (rollback : S → ℕ → S) (need :
   goes_refused i g ns s s₁ (Ok d) lt go o e = absurd (ok_not_err (sym e))
   goes_refused i g ns s s₁ (Err f) lt go o e =
       go s₁ (Err (described g)) (one i ns s s₁ (Err (described g)) lt (inl (f, record { due = o.due; same = refl }, ap Err (ap described (err_same {A = ℕ} e)), o.same)))
-
-  pub goes_end : (i : ℕ) (vs : List ℕ) (s : S) → i ≡ n → GoesOn i vs s → Runs model rollback need (switching n 0 [] done) s₀ s (Ok vs)
-  goes_end i vs s e go =
-      go s (Ok vs) (subst (λ (j : ℕ). Runs model rollback need (switching j i vs done) s s (Ok vs)) (let z : 0 ≡ n - i = omega arith in z) (refl, refl))
 
 module _ {S A : Type 0} (model : S → Model) (rollback : S → ℕ → S) (need : S → Op → ℕ) (n : ℕ) (k : List ℕ → Steps A Refusal) where
   by_then : (s s' : S) (r : Result A Refusal) → Runs model rollback need (then (switching n 0 [] done) k) s s' r → Runs model rollback need (switching n 0 [] k) s s' r

@@ -150,6 +150,7 @@ fn read_lines<'a, S: Store>(
     let mut allowed = reading.known.top;
     let mut number = lines;
     let mut rest = text;
+    // no `for`: what stands behind `begin` is a part of the answer
     while !rest.is_empty() {
         let (line, behind) = first_line(rest);
         number = number.saturating_add(1);

@@ -3,7 +3,7 @@ use Rattle.std.proofs.Common.{◌≡◌, ℕ, zero, suc, ◌^◌, ◌<◌, ◌�
 use Rattle.std.proofs.lemmas.Bool.{cases_Bool, cases_eq, cases_lt}
 use Rattle.stores.specs.Sets.{Set, Empty, ◌∖◌, on}
 use Rattle.stores.specs.Model.{Model, set_at, Consistent}
-use Rattle.stores.specs.Outcome.{Op, switch, less, Accepted, Refused}
+use Rattle.stores.specs.Outcome.{Op, switch, less, Accepted}
 use Rattle.stores.specs.Steps.{done, ask, test, TellsEmpty, Runs}
 use Rattle.stores.specs.declared.fault.StoreFault.{StoreFault}
 use Rattle.stores.proofs.Models.{set_before}
@@ -13,16 +13,6 @@ use Rattle.standing.specs.declared.verdict.Standing.TheVariants.{Free, On, Off}
 use Rattle.standing.specs.Standing.{Stands, asking}
 
 module _ {S : Type 0} (model : S → Model) (rollback : S → ℕ → S) (need : S → Op → ℕ) (top i : ℕ) where
-  pub no_switch : (s s₁ : S) (f : StoreFault) (r : Result Standing StoreFault) → Refused model s s₁ (need s (switch i)) (switch i) f → r ≡ Err f → Runs model rollback need (asking top i) s s₁ r
-  no_switch s s₁ f r h e = inl (f, record { due = h.due; same = refl }, e, h.same)
-
-  pub never_on : (s s₁ : S) (x : ℕ) → Accepted model rollback s s₁ (need s (switch i)) (switch i) x → Empty (set_at (model s₁) x) → Runs model rollback need (asking top i) s s₁ (Ok Off)
-  never_on s s₁ x a v = inr (x, s₁, a, (true, a.within, v, (refl, refl)))
-
-  pub no_room : (s s₁ s₂ : S) (x : ℕ) (f : StoreFault) (r : Result Standing StoreFault) → Accepted model rollback s s₁ (need s (switch i)) (switch i) x → (Empty (set_at (model s₁) x) → ⊥)
-      → Refused model s₁ s₂ (need s₁ (less top x)) (less top x) f → r ≡ Err f → Runs model rollback need (asking top i) s s₂ r
-  no_room s s₁ s₂ x f r a v h e = inr (x, s₁, a, (false, a.within, v, inl (f, record { due = h.due; same = refl }, e, h.same)))
-
   pub always_on : (s s₁ s₂ : S) (x y : ℕ) → Accepted model rollback s s₁ (need s (switch i)) (switch i) x → (Empty (set_at (model s₁) x) → ⊥)
       → Accepted model rollback s₁ s₂ (need s₁ (less top x)) (less top x) y → Empty (set_at (model s₂) y) → Runs model rollback need (asking top i) s s₂ (Ok On)
   always_on s s₁ s₂ x y a v b w = inr (x, s₁, a, (false, a.within, v, inr (y, s₂, b, (true, b.within, w, (refl, refl)))))
@@ -30,9 +20,6 @@ module _ {S : Type 0} (model : S → Model) (rollback : S → ℕ → S) (need :
   pub either_way : (s s₁ s₂ : S) (x y : ℕ) → Accepted model rollback s s₁ (need s (switch i)) (switch i) x → (Empty (set_at (model s₁) x) → ⊥)
       → Accepted model rollback s₁ s₂ (need s₁ (less top x)) (less top x) y → (Empty (set_at (model s₂) y) → ⊥) → Runs model rollback need (asking top i) s s₂ (Ok Free)
   either_way s s₁ s₂ x y a v b w = inr (x, s₁, a, (false, a.within, v, inr (y, s₂, b, (false, b.within, w, (refl, refl)))))
-
-clash : true ≡ false → ⊥
-clash e = let z : ◌≡◌ {A = ℕ} 0 1 = cc in omega arith
 
 -- a look at all configurations below n
 look : (f : Set) (n : ℕ) → ((k : ℕ) × (f k ≡ true)) ⊎ ((k : ℕ) → k < n → f k ≡ false)
@@ -51,21 +38,21 @@ one_of f n bound some = ⊎_elim (λ w. w) (λ below. absurd (some (λ k. outsid
 
 and_both : (x y : Bool) → (x && y) ≡ true → (x ≡ true) × (y ≡ true)
 and_both true y h = (refl, h)
-and_both false y h = absurd (clash (sym h))
+and_both false y h = cc
 
 off_by : (x y : Bool) → (x && y) ≡ false → x ≡ true → y ≡ false
 off_by true y h e = h
-off_by false y h e = absurd (clash (sym e))
+off_by false y h e = cc
 
 on_by : (x y : Bool) → (x && not (x && y)) ≡ false → x ≡ true → y ≡ true
 on_by true true h e = refl
 on_by true false h e = sym h
-on_by false y h e = absurd (clash (sym e))
+on_by false y h e = cc
 
 lacks_by : (x y : Bool) → (x && not (x && y)) ≡ true → (x ≡ true) × (y ≡ false)
-lacks_by true true h = absurd (clash (sym h))
+lacks_by true true h = cc
 lacks_by true false h = (refl, refl)
-lacks_by false y h = absurd (clash (sym h))
+lacks_by false y h = cc
 
 module _ {S : Type 0} (model : S → Model) (rollback : S → ℕ → S) (need : S → Op → ℕ) (top i : ℕ) (s : S) where
   given : (v w : Standing) → ◌≡◌ {A = Result Standing StoreFault} (Ok v) (Ok w) → Stands (model s).allowed i w → Stands (model s).allowed i v
