@@ -21,6 +21,7 @@ fn most_switches(rt: HostRuntime) -> Result<(), Fail> {
     Ok(())
 }
 
+// As over diagrams. One function for both would have as many lines as the two.
 #[test]
 fn too_many_switches(rt: HostRuntime) {
     let mut words = [9; 1];

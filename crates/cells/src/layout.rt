@@ -2,6 +2,8 @@
 ghost use Rattle.std.specs.Prelude.{◌≡◌, ◌+◌, ◌*◌, ◌≤◌, length};
 ghost use Rattle.cells.specs.Words.{capacity};
 
+// Each format of a store fixes its own numbers, also where two agree.
+
 // The most cells that are used, however many words there are: two numbers then go into one word.
 pub const MAX_CAPACITY: usize = 65_535;
 
@@ -51,7 +53,7 @@ pub(crate) fn place(cell: u32) -> usize
     CELLS + CELL_WORDS * cell as usize
 }
 
-// How many cells there is room for.
+// How many cells there is room for. So few words are the least that any write here needs; no type ties a length to bare words.
 pub(crate) fn room(words: &[u32]) -> u32
     requires { 1090 ≤ length words.now }
     ensures { result ≡ capacity words.now }

@@ -82,6 +82,7 @@ pub fn cut_cells(words: &mut [u32], held: u32)
     requires { (WellFormed words.old) × ((2 ≤ held) × (held ≤ count words.old)) }
     ensures { Cut words.old words.new held }
 {
+    // the words themselves count
     while words[COUNT_WORD] > held {
         pop_cell(words);
     }

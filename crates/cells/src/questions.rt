@@ -4,7 +4,7 @@ ghost use Rattle.cells.specs.Words.{WellFormed};
 use super::layout::{ALL, EMPTY, FLOOR, HEADS, HIGH, LOW, NEXT, place};
 use super::node::Node;
 
-// The words of a store, to be read.
+// The words of a store, to be read. That a cell's number is one of them is a clause of each method: no type ties a number to the words.
 #[derive(Clone, Copy)]
 pub struct Cells<'a> {
     pub words: &'a [u32],
@@ -30,7 +30,7 @@ impl Cells<'_> {
         }
     }
 
-    // The cell after one on its chain, or 0.
+    // The cell after one on its chain, or 0, which ends a chain in the words.
     pub(crate) fn next(&self, cell: u32) -> u32
         requires { cell < count self.now.words.now }
         ensures { result ≡ next_at self.now.words.now cell }

@@ -119,8 +119,9 @@ impl<'a> Shape<'a> {
             return Err(ConditionalFault::OutsideChain { line: line.number });
         };
         self.check_block(line)?;
-        let _ = self.chains.pop();
-        self.chains.push(is_else);
+        if let Some(else_read) = self.chains.last_mut() {
+            *else_read = is_else;
+        }
         self.blocks += 1;
         Ok(())
     }

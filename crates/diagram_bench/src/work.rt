@@ -150,6 +150,7 @@ impl<S: Store> Counting<S> {
         Ok(all)
     }
 
+    // An enum and no closure: a piece of work has a name that is printed, and is done again and again.
     fn run(&mut self, work: Work) -> Result<u32, StoreFault> {
         match work {
             Work::Equivalences => self.equivalences(),

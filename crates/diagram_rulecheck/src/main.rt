@@ -8,6 +8,7 @@ use std::process::ExitCode;
 // Room for all the cells that a diagram store uses.
 const WORDS: usize = 1_090 + 4 * 65_535;
 
+// As in `rulecheck`, but for the store: what the programs share is `check`.
 fn main(rt: HostRuntime) -> anyhow::Result<ExitCode> {
     let mut words = vec![in rt.alloc(); 0u32; WORDS]?;
     check::<Diagrams<'_>>(&rt, words.as_mut_slice())

@@ -132,6 +132,7 @@ struct Marks {
     newer: Option<Mark>,
 }
 
+// A mark can be neither copied nor dropped, so no closure takes it for both of the next two.
 fn release<S: Store>(store: &mut S, mark: Option<Mark>) {
     if let Some(mark) = mark {
         store.release(mark);

@@ -15,6 +15,7 @@ fn two_cells(rt: HostRuntime) -> Result<(), Fail> {
     Ok(())
 }
 
+// As over bitmaps. One function for both would have as many lines as the two.
 #[test]
 fn too_many_switches(rt: HostRuntime) {
     let mut words = [9; 1];

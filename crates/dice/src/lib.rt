@@ -10,7 +10,7 @@ pub struct Dice {
 }
 
 impl Dice {
-    // The next number below `sides`; 0 where there are none.
+    // The next number below `sides`; 0 where there are none. No Option, since whoever rolls would only unwrap it.
     pub fn roll(&mut self, sides: u32) -> u32
         ensures below { 0 < sides → result < sides }
         ensures none { sides ≡ 0 → result ≡ 0 }

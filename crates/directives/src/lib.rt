@@ -81,7 +81,8 @@ pub fn find(line: &[u8]) -> Option<Found>
     })
 }
 
-// Is `#` the first byte outside blanks and block comments? The line may begin inside a block comment.
+// Is `#` the first byte outside blanks and block comments? The line may begin inside a block comment. These two know no place of a line in its source,
+// so they take no more than they need of it.
 pub fn begins_with_hash(line: &[u8], in_comment: bool) -> bool
     ensures value { result ≡ hash (front in_comment line.now) }
     ensures law { Decides result (HashFirst in_comment line.now) }

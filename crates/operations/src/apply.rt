@@ -14,7 +14,7 @@ use cells::questions::Cells;
 use stores::connective::Connective;
 use stores::fault::StoreFault;
 
-// One more than the switch of a cell, or 0.
+// One more than the switch of a cell, or 0. No Option, since levels are compared.
 pub(crate) fn level_of(cells: &Cells<'_>, cell: u32) -> u32
     requires { cell < count cells.now.words.now }
     ensures is { result ≡ level (cells_of cells.now.words.now) cell }

@@ -6,6 +6,7 @@ use bitmaps::Bitmaps;
 use std::alloc::Global;
 use std::test::Fail;
 
+// As in `diagram_store`, but for the store: each test there and here is one call, since a test takes no type parameter.
 struct OverBitmaps;
 
 impl Over for OverBitmaps {

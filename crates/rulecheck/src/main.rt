@@ -8,6 +8,7 @@ use std::process::ExitCode;
 // Room for 1,024 sets of 10 switches, and for more of fewer.
 const WORDS: usize = 2 + 1024 * 16;
 
+// As in `diagram_rulecheck`, but for the store: what the programs share is `check`.
 fn main(rt: HostRuntime) -> anyhow::Result<ExitCode> {
     let mut words = vec![in rt.alloc(); 0u64; WORDS]?;
     check::<Bitmaps<'_>>(&rt, words.as_mut_slice())

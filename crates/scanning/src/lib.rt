@@ -89,7 +89,7 @@ impl Scanner {
     }
 }
 
-// Is a block comment open after a line that began inside one, or in code? A line feed at its end is a byte as any other.
+// Is a block comment open after a line that began inside one, or in code? A line feed at its end is a byte as any other. All that it needs of a line.
 pub fn open_after(in_comment: bool, line: &[u8]) -> bool
     ensures value { result ≡ open_after in_comment line.now }
     ensures scanned { Scanned in_comment line.now result }

@@ -139,7 +139,7 @@ fn refused_calls(rt: HostRuntime) -> Result<(), Fail> {
     Ok(())
 }
 
-// `before`, then `count` times `part`, then `behind`.
+// `before`, then `count` times `part`, then `behind`. As in `rule_tests`: a crate for two lines would be no plainer.
 fn repeated(
     heap: Global,
     before: &str,
@@ -147,12 +147,8 @@ fn repeated(
     count: usize,
     behind: &str,
 ) -> Result<String, Fail> {
-    let mut text = String::from_str(heap, before)?;
-    for _ in 0..count {
-        text.push_str(part)?;
-    }
-    text.push_str(behind)?;
-    Ok(text)
+    let parts = part.repeat(heap, count)?;
+    Ok(format!(in heap; "{before}{parts}{behind}")?)
 }
 
 // With `count` parts the source gives this.

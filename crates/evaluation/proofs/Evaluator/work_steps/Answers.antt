@@ -23,6 +23,3 @@ loop-step-preserved g c =
       omega arith,
       goes_more (get_or steps i Never) c.in_ok-number.number (reverse c.value.new.stack.items) c.loop-step.invariant.2 (drop_step steps i Never c.loop-step-test.true) e.runs e.popped (search (rules, stack_pushed)),
     )
-
-pub returns-clause-runs : goal.returns-clause-runs
-returns-clause-runs g c = goes_end _ c.loop-step.invariant.2 c.loop-step-test.false c.pop.ensures.value
