@@ -2,7 +2,8 @@
 ghost use Rattle.std.specs.Prelude.{◌≡◌, ◌<◌, ◌≤◌, slice_index};
 ghost use Rattle.bitmaps.specs.Meaning.{Valid, cut_words};
 
-use super::layout::{COUNT_WORD, N_WORD, Switches, fill};
+use super::layout::{Switches, fill};
+use stores::in_words::{COUNT_WORD, N_WORD};
 
 // Takes the slots from number `kept` on off.
 pub(crate) fn cut_slots(words: &mut [u64], kept: u32)

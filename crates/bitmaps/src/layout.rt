@@ -4,27 +4,18 @@ ghost use Rattle.stores.specs.Sets.{LowestIf};
 ghost use Rattle.bitmaps.specs.Layout.{width, used, full, slots, start};
 ghost use Rattle.bitmaps.specs.Meaning.{slot, Held};
 
-// Each format of a store fixes its own numbers, also where two agree.
+use stores::in_words::MAX_CAPACITY;
 
 // The most switches that a bitmap store admits.
 pub const MAX_SWITCHES: u32 = 10;
 
-// The most slots that are used, however many words there are.
-pub const MAX_CAPACITY: usize = 65_535;
-
-pub(crate) const N_WORD: usize = 0;
-
-pub(crate) const COUNT_WORD: usize = 1;
-
 // The words before the slots.
 pub(crate) const HEADER: usize = 2;
 
-// The two slots below the floor are never released.
+// The two slots that are never released.
 pub(crate) const EMPTY_SLOT: u32 = 0;
 
 pub(crate) const FULL_SLOT: u32 = 1;
-
-pub(crate) const FLOOR: u32 = 2;
 
 pub(crate) const WORD_BITS: u32 = 64;
 

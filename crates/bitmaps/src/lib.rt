@@ -10,13 +10,14 @@ mod making;
 mod operation;
 
 use cutting::cut_slots;
-use layout::{COUNT_WORD, EMPTY_SLOT, FLOOR, FULL_SLOT, N_WORD, Slots, Switches, WORD_BITS};
+use layout::{EMPTY_SLOT, FULL_SLOT, Slots, Switches, WORD_BITS};
 use operation::Operation;
 use stores::Store;
 use stores::connective::Connective;
 use stores::fault::StoreFault;
-use stores::in_words::InWords;
+use stores::in_words::{COUNT_WORD, FLOOR, InWords, N_WORD};
 
+// Of one form with a diagram store, but for the word and for what the words mean: so each is a type of its own.
 #[derive(Drop)]
 pub struct Bitmaps<'a> {
     words: &'a mut [u64],

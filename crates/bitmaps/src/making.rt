@@ -2,8 +2,9 @@
 ghost use Rattle.stores.specs.Making.{Prepared};
 ghost use Rattle.bitmaps.specs.Making.{due, renewed};
 
-use super::layout::{COUNT_WORD, FLOOR, FULL_SLOT, MAX_SWITCHES, N_WORD, Switches, fill};
+use super::layout::{FULL_SLOT, MAX_SWITCHES, Switches, fill};
 use stores::fault::StoreFault;
+use stores::in_words::{COUNT_WORD, FLOOR, N_WORD};
 
 // Writes a new store of `n` switches into the words, or leaves them as they were.
 pub(crate) fn prepare(words: &mut [u64], n: u32) -> Result<(), StoreFault>

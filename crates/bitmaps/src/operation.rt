@@ -6,8 +6,9 @@ ghost use Rattle.bitmaps.specs.Layout.{width, slots};
 ghost use Rattle.bitmaps.specs.Meaning.{means, Valid, one, cut_words};
 ghost use Rattle.bitmaps.specs.Operations.{op_of, Operands, connected, NewWord, Written};
 
-use super::layout::{COUNT_WORD, FULL_SLOT, N_WORD, Slots, Switches, WORD_SWITCHES};
+use super::layout::{FULL_SLOT, Slots, Switches, WORD_SWITCHES};
 use stores::connective::Connective;
+use stores::in_words::{COUNT_WORD, N_WORD};
 
 // Each word of the configurations that have switch `i` on, for the switches that tell the bits of a word apart.
 const PATTERNS: [u64; 6] = [

@@ -2,14 +2,7 @@
 ghost use Rattle.std.specs.Prelude.{◌≡◌, ◌+◌, ◌*◌, ◌≤◌, length};
 ghost use Rattle.cells.specs.Words.{capacity};
 
-// Each format of a store fixes its own numbers, also where two agree.
-
-// The most cells that are used, however many words there are: two numbers then go into one word.
-pub const MAX_CAPACITY: usize = 65_535;
-
-pub const N_WORD: usize = 0;
-
-pub const COUNT_WORD: usize = 1;
+use stores::in_words::MAX_CAPACITY;
 
 // The first of the chain heads.
 pub const HEADS: usize = 2;
@@ -42,9 +35,6 @@ pub const NO_SWITCH: u32 = 32;
 pub const EMPTY: u32 = 0;
 
 pub const ALL: u32 = 1;
-
-// The two cells below the floor are never released.
-pub const FLOOR: u32 = 2;
 
 // The first word of a cell.
 pub(crate) fn place(cell: u32) -> usize

@@ -3,10 +3,11 @@ ghost use Rattle.std.specs.Prelude.{◌≤◌, length};
 ghost use Rattle.stores.specs.Making.{Prepared};
 ghost use Rattle.cells.specs.Words.{Wiped, New, due};
 
-use super::layout::{ALL, COUNT_WORD, EMPTY, FLOOR, N_WORD, place, room};
+use super::layout::{ALL, EMPTY, place, room};
 use super::node::Node;
 use stores::MAX_SWITCHES;
 use stores::fault::StoreFault;
+use stores::in_words::{COUNT_WORD, FLOOR, N_WORD};
 
 // The words of a store with no more than the two cells that every store has.
 const FEWEST_WORDS: usize = 1_098;

@@ -6,10 +6,11 @@ ghost use Rattle.cells.specs.Cells.{node, Sides};
 ghost use Rattle.cells.specs.Nodes.{cell_of};
 ghost use Rattle.cells.specs.Words.{WellFormed, Valid, switches, count, cells_of, switch_of, pushed, popped, Cut, StepOutcome, SameWorking, Operated};
 
-use super::layout::{ALL, CELL_WORDS, COUNT_WORD, EMPTY, HEADS, N_WORD, NEXT, place, room};
+use super::layout::{ALL, CELL_WORDS, EMPTY, HEADS, NEXT, place, room};
 use super::node::Node;
 use super::questions::Cells;
 use stores::fault::StoreFault;
+use stores::in_words::{COUNT_WORD, N_WORD};
 
 // Adds a cell, which heads its chain.
 pub(crate) fn push_cell(words: &mut [u32], x: Node) -> u32

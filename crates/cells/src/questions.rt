@@ -1,8 +1,9 @@
 // The cells of a store, as they are read, and questions about their sets.
 ghost use Rattle.cells.specs.Words.{WellFormed};
 
-use super::layout::{ALL, EMPTY, FLOOR, HEADS, HIGH, LOW, NEXT, place};
+use super::layout::{ALL, EMPTY, HEADS, HIGH, LOW, NEXT, place};
 use super::node::Node;
+use stores::in_words::FLOOR;
 
 // The words of a store, to be read. That a cell's number is one of them is a clause of each method: no type ties a number to the words.
 #[derive(Clone, Copy)]

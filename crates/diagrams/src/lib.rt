@@ -5,15 +5,16 @@
 
 ghost use Rattle.cells.specs.Words.{Valid};
 
-use cells::layout::{ALL, COUNT_WORD, EMPTY, FLOOR, N_WORD};
+use cells::layout::{ALL, EMPTY};
 use cells::pool::{cut_cells, switch_cell};
 use cells::questions::Cells;
 use operations::apply::operate;
 use stores::Store;
 use stores::connective::Connective;
 use stores::fault::StoreFault;
-use stores::in_words::InWords;
+use stores::in_words::{COUNT_WORD, FLOOR, InWords, N_WORD};
 
+// Of one form with a bitmap store, but for the word and for what the words mean: so each is a type of its own.
 #[derive(Drop)]
 pub struct Diagrams<'a> {
     words: &'a mut [u32],

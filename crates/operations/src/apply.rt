@@ -7,12 +7,13 @@ ghost use Rattle.operations.specs.Taken.{Parted};
 ghost use Rattle.cells.specs.Words.{WellFormed, Valid, switches, count, cells_of, op_of, StepOutcome, Remembers, Operated};
 
 use super::working::{Working, recall, remember};
-use cells::layout::{ALL, COUNT_WORD, EMPTY, FLOOR};
+use cells::layout::{ALL, EMPTY};
 use cells::node::Node;
 use cells::pool::{cut_cells, join_cells};
 use cells::questions::Cells;
 use stores::connective::Connective;
 use stores::fault::StoreFault;
+use stores::in_words::{COUNT_WORD, FLOOR};
 
 // One more than the switch of a cell, or 0. No Option, since levels are compared.
 pub(crate) fn level_of(cells: &Cells<'_>, cell: u32) -> u32

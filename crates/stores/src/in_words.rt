@@ -6,6 +6,18 @@ ghost use Rattle.stores.specs.Making.{Prepared, Made};
 use super::Store;
 use crate::fault::StoreFault;
 
+// Where the number of switches stands, and how many sets are held.
+pub const N_WORD: usize = 0;
+
+pub const COUNT_WORD: usize = 1;
+
+// The empty set and all configurations, which are never released.
+pub const FLOOR: u32 = 2;
+
+// The most sets that are held, however many words there are: two of their numbers then go into one word.
+pub const MAX_CAPACITY: usize = 65_535;
+
+// What the stores in words have in common, besides their first two words.
 pub trait InWords<'a>: Store {
     type Word;
 
