@@ -6,7 +6,7 @@ ghost use Rattle.rules.specs.Ruled.{entry_of};
 use evaluation::Entries;
 use names::index_of;
 
-// The switches' names, and the numbers of their sets, in the same order. Two lists, since the names are the caller's: pairs would need a copy of them.
+// The switches' names, and the numbers of their sets, in the same order. Two lists: pairs would need a copy of the caller's names.
 #[derive(Clone, Copy)]
 pub struct Switches<'a> {
     pub names: &'a [&'a [u8]],
