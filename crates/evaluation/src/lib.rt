@@ -89,11 +89,7 @@ impl<E: Entries> Evaluator<E> {
     }
 
     // Works the steps out in their order. The answer is the number that the last one left.
-    fn work_steps<S: Store>(
-        &self,
-        steps: &[Step<'_>],
-        store: &mut S,
-    ) -> Result<u32, StoreFault>
+    fn work_steps<S: Store>(&self, steps: &[Step<'_>], store: &mut S) -> Result<u32, StoreFault>
         requires { length steps.now ≤ 255 }
         ensures advanced { Advanced S.model S.rollback store.old store.new }
         ensures runs { Runs S.model S.rollback S.need (machine (items steps.now) (E.lookup self.now.entries) self.now.known.none self.now.known.top []) store.old store.new result }

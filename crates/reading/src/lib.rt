@@ -11,10 +11,7 @@ use sources::line::Line;
 use sources::place::SourceLine;
 
 // Reads the line, where `shape` is what the lines before it leave open.
-pub fn read_line<'a>(
-    shape: &mut Shape<'a>,
-    line: &SourceLine<'a>,
-) -> Result<Line<'a>, SourceFault>
+pub fn read_line<'a>(shape: &mut Shape<'a>, line: &SourceLine<'a>) -> Result<Line<'a>, SourceFault>
     ensures { LineOutcome line.now shape.old shape.new result }
 {
     let read = classify(line)?;
