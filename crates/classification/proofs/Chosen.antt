@@ -10,7 +10,8 @@ use Rattle.directives.specs.declared.Found.{Found}
 use Rattle.directives.specs.Gaps.{front}
 use Rattle.directives.specs.Directives.{past, hash, alone, named, directive_of, directive_in, placed, found_in, conditional, final}
 use Rattle.sources.specs.declared.fault.LineFault.{LineFault}
-use Rattle.sources.specs.declared.fault.LineFault.TheVariants.{Continued, CommentOpen, HashBehindComment}
+use Rattle.sources.specs.declared.fault.LineFault.TheVariants.{Line as FaultyLine}
+use Rattle.sources.specs.declared.fault.LineReason.TheVariants.{Continued, CommentOpen, HashBehindComment}
 use Rattle.sources.specs.declared.fault.SourceFault.{SourceFault}
 use Rattle.sources.specs.declared.fault.SourceFault.TheVariants as source
 use Rattle.sources.specs.declared.line.Line.{Line}
@@ -25,7 +26,7 @@ use Rattle.classification.specs.Parts.{conditional_at, checked_line, Makes}
 -- the three tests in a row
 module _ (n : ℕ) (k : Result definition.Line Refusal) where
   abbrev Checks : Bool → Bool → Bool → Result (Unit {0}) LineFault
-  Checks x y z = refuse x (Continued n) (refuse y (CommentOpen n) (refuse z (HashBehindComment n) (Ok tt)))
+  Checks x y z = refuse x (FaultyLine Continued n) (refuse y (FaultyLine CommentOpen n) (refuse z (FaultyLine HashBehindComment n) (Ok tt)))
 
   abbrev Chooses : Bool → Bool → Bool → Result definition.Line Refusal
   Chooses x y z = refuse x (of_lines 9 n) (refuse y (of_lines 10 n) (refuse z (of_lines 11 n) k))
@@ -37,15 +38,15 @@ module _ (n : ℕ) (k : Result definition.Line Refusal) where
   no_fault f e = let z : ◌≡◌ {A = ℕ} 0 1 = cc in absurd (omega arith)
 
   pub all_refused : (x y z : Bool) (f : LineFault) → Err f ≡ Checks x y z → Chooses x y z ≡ Err (line_fault f)
-  all_refused true y z f e = told f (Continued n) e
-  all_refused false true z f e = told f (CommentOpen n) e
-  all_refused false false true f e = told f (HashBehindComment n) e
+  all_refused true y z f e = told f (FaultyLine Continued n) e
+  all_refused false true z f e = told f (FaultyLine CommentOpen n) e
+  all_refused false false true f e = told f (FaultyLine HashBehindComment n) e
   all_refused false false false f e = no_fault f e
 
   pub none_refused : (x y z : Bool) → Ok tt ≡ Checks x y z → Chooses x y z ≡ k
-  none_refused true y z e = no_fault (Continued n) (sym e)
-  none_refused false true z e = no_fault (CommentOpen n) (sym e)
-  none_refused false false true e = no_fault (HashBehindComment n) (sym e)
+  none_refused true y z e = no_fault (FaultyLine Continued n) (sym e)
+  none_refused false true z e = no_fault (FaultyLine CommentOpen n) (sym e)
+  none_refused false false true e = no_fault (FaultyLine HashBehindComment n) (sym e)
   none_refused false false false e = refl
 
 placed_in : (c : Bool) (d : Option Directive) (n : ℕ) → cond c None (placed d n) ≡ placed (cond c None d) n

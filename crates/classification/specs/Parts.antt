@@ -17,7 +17,8 @@ use Rattle.directives.specs.declared.Found.{Found}
 use Rattle.directives.specs.Gaps.{front}
 use Rattle.directives.specs.Directives.{hash, alone, conditional, final}
 use Rattle.sources.specs.declared.fault.LineFault.{LineFault}
-use Rattle.sources.specs.declared.fault.LineFault.TheVariants.{Continued, CommentOpen, HashBehindComment}
+use Rattle.sources.specs.declared.fault.LineFault.TheVariants.{Line as FaultyLine}
+use Rattle.sources.specs.declared.fault.LineReason.TheVariants.{Continued, CommentOpen, HashBehindComment}
 use Rattle.sources.specs.declared.line.Line.{Line}
 use Rattle.sources.specs.Classified as definition
 use Rattle.sources.specs.Answers.{steps_of, shown, seen}
@@ -28,9 +29,9 @@ conditional_at (Some f) = conditional (Some f.directive)
 
 abbrev pub checked_line : Bool → Bool → ℕ → Bool → Bytes → Result (Unit {0}) LineFault
 checked_line last c n d l =
-    definition.refuse (final 0 l == 92) (Continued n)
-    (definition.refuse (open_after c l && (last || (d || alone (front c l)))) (CommentOpen n)
-    (definition.refuse (c && hash (front c l)) (HashBehindComment n)
+    definition.refuse (final 0 l == 92) (FaultyLine Continued n)
+    (definition.refuse (open_after c l && (last || (d || alone (front c l)))) (FaultyLine CommentOpen n)
+    (definition.refuse (c && hash (front c l)) (FaultyLine HashBehindComment n)
     (Ok tt)))
 
 abbrev pub Agrees : {A B : Type 0} → (A → B → Type 0) → Result A Refusal → Result B ExpressionFault → Type 0

@@ -20,7 +20,7 @@ use expressions::fault::ExpressionFault;
 use expressions::operand::Operand;
 use parser::condition;
 use scanning::open_after;
-use sources::fault::{LineFault, SourceFault};
+use sources::fault::{LineFault, LineReason, SourceFault};
 use sources::line::{Line, content};
 use sources::place::SourceLine;
 
@@ -61,11 +61,11 @@ fn check_line(line: &SourceLine<'_>, conditional: bool) -> Result<(), LineFault>
     ensures { result ≡ checked_line line.now.last line.now.in_comment line.now.number conditional line.now.text.now }
 {
     if ends_in_backslash(line.text) {
-        Err(LineFault::Continued { line: line.number })
+        Err(LineReason::Continued.on(line.number))
     } else if leaves_comment_open(line, conditional) {
-        Err(LineFault::CommentOpen { line: line.number })
+        Err(LineReason::CommentOpen.on(line.number))
     } else if hash_behind_comment(line) {
-        Err(LineFault::HashBehindComment { line: line.number })
+        Err(LineReason::HashBehindComment.on(line.number))
     } else {
         Ok(())
     }

@@ -5,7 +5,7 @@
 
 ghost use Rattle.std.specs.Prelude.{◌≡◌, ◌≤◌, true, length, if◌then◌else◌, Ok, Err, nat_le};
 ghost use Rattle.names.specs.Names.{texts};
-ghost use Rattle.sources.specs.declared.fault.ConditionalFault.TheVariants.{TooManyBlocks, ChainOpen};
+ghost use Rattle.sources.specs.declared.fault.ConditionalReason.TheVariants.{TooManyBlocks, ChainOpen};
 ghost use Rattle.sources.specs.Classified.{Line as Defined};
 ghost use Rattle.sources.specs.Answers.{shown, seen};
 ghost use Rattle.conditionals.specs.Shape.{shaped, opened, furthered, ended, entered, ends};
@@ -13,7 +13,7 @@ ghost use Rattle.conditionals.specs.Answers.{shape_of, beginning, start_of, show
 
 use arrayvec::ArrayVec;
 use names::index_of;
-use sources::fault::ConditionalFault;
+use sources::fault::{ConditionalFault, ConditionalReason};
 use sources::line::Line;
 use sources::place::SourceLine;
 
@@ -80,20 +80,20 @@ impl<'a> Shape<'a> {
         ensures { Reads self.now self.now (ends line.now.last line.now.number (Ok (shape_of self.now))) result }
     {
         if line.last && !self.chains.is_empty() {
-            return Err(ConditionalFault::ChainOpen { line: line.number });
+            return Err(ConditionalReason::ChainOpen.on(line.number));
         }
         Ok(())
     }
 
     // May one more block open on the line? Behind it, its chain is open.
     fn check_block(&self, line: &SourceLine<'_>) -> Result<(), ConditionalFault>
-        ensures { result ≡ (if nat_le 255 self.now.blocks then Err (TooManyBlocks line.now.number) else (if line.now.last then Err (ChainOpen line.now.number) else Ok tt)) }
+        ensures { result ≡ (if nat_le 255 self.now.blocks then Err (record { reason = TooManyBlocks; line = line.now.number }) else (if line.now.last then Err (record { reason = ChainOpen; line = line.now.number }) else Ok tt)) }
     {
         if self.blocks() >= MAX_BLOCKS {
-            return Err(ConditionalFault::TooManyBlocks { line: line.number });
+            return Err(ConditionalReason::TooManyBlocks.on(line.number));
         }
         if line.last {
-            return Err(ConditionalFault::ChainOpen { line: line.number });
+            return Err(ConditionalReason::ChainOpen.on(line.number));
         }
         Ok(())
     }
@@ -103,7 +103,7 @@ impl<'a> Shape<'a> {
         ensures { Reads self.old self.new (ends line.now.last line.now.number (opened line.now.number (shape_of self.old))) result }
     {
         if self.chains.is_full() {
-            return Err(ConditionalFault::TooManyChains { line: line.number });
+            return Err(ConditionalReason::TooManyChains.on(line.number));
         }
         self.check_block(line)?;
         self.chains.push(false);
@@ -116,7 +116,7 @@ impl<'a> Shape<'a> {
         ensures { Reads self.old self.new (ends line.now.last line.now.number (furthered line.now.number is_else (shape_of self.old).chains (shape_of self.old))) result }
     {
         let Some(false) = self.chains.last().copied() else {
-            return Err(ConditionalFault::OutsideChain { line: line.number });
+            return Err(ConditionalReason::OutsideChain.on(line.number));
         };
         self.check_block(line)?;
         if let Some(else_read) = self.chains.last_mut() {
@@ -131,11 +131,11 @@ impl<'a> Shape<'a> {
         ensures { Reads self.old self.new (ends line.now.last line.now.number (ended line.now.number (shape_of self.old).chains (shape_of self.old))) result }
     {
         if line.last && self.open_chains() > 1 {
-            return Err(ConditionalFault::ChainOpen { line: line.number });
+            return Err(ConditionalReason::ChainOpen.on(line.number));
         }
         match self.chains.pop() {
             Some(_) => Ok(()),
-            None => Err(ConditionalFault::OutsideChain { line: line.number }),
+            None => Err(ConditionalReason::OutsideChain.on(line.number)),
         }
     }
 
@@ -147,7 +147,7 @@ impl<'a> Shape<'a> {
             return self.pass(line);
         }
         if self.names.is_full() {
-            return Err(ConditionalFault::TooManyNames { line: line.number });
+            return Err(ConditionalReason::TooManyNames.on(line.number));
         }
         self.pass(line)?;
         self.names.push(name);

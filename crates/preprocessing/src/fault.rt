@@ -7,6 +7,7 @@ ghost use Rattle.preprocessing.specs.declared.fault.PreprocessingFault.TheVarian
 use faults::{Layer, Refusal};
 use sources::fault::{LineFault, SourceFault};
 use std::alloc::AllocError;
+use stores::fault::StoreFault;
 
 #[derive(Clone, Copy)]
 pub enum PreprocessingFault {
@@ -22,20 +23,22 @@ pub enum PreprocessingFault {
 }
 
 impl PreprocessingFault {
-    // The refusal, if it is one: want of memory says nothing of the source. So it is no From. The numbers are the format's, in this table alone.
+    // The refusal, if it is one: want of memory says nothing of the source. So it is no From.
     pub fn refusal(self) -> Option<Refusal>
         ensures { result ≡ described self }
     {
-        let (number, layer) = match self {
-            PreprocessingFault::TooManySwitches => (7, Layer::Store),
-            PreprocessingFault::Names => (23, Layer::Session),
-            PreprocessingFault::NoConfiguration => (4, Layer::Session),
+        let number = match self {
+            PreprocessingFault::TooManySwitches => {
+                return Some(StoreFault::TooManySwitches.refusal(0));
+            }
             PreprocessingFault::Source(fault) => return Some(fault.into()),
             PreprocessingFault::OutOfMemory => return None,
+            PreprocessingFault::Names => 23,
+            PreprocessingFault::NoConfiguration => 4,
         };
         Some(Refusal {
             number,
-            layer,
+            layer: Layer::Session,
             line: 0,
             byte: 0,
         })

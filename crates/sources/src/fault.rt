@@ -1,6 +1,7 @@
 // Why a source is refused.
 ghost use Rattle.std.specs.Prelude.{◌≡◌};
 ghost use Rattle.sources.specs.Faults.{line_fault, conditional_fault, described};
+ghost use Rattle.sources.specs.declared.fault.LineFault.TheVariants.{Line as FaultyLine};
 ghost use Rattle.sources.specs.declared.fault.SourceFault.TheVariants.{Lines, Expression, Conditionals};
 
 use expressions::fault::ExpressionFault;
@@ -10,23 +11,54 @@ use faults::{Layer, Refusal};
 pub enum LineFault {
     // more bytes or lines than a source may have
     TooLarge,
+    Line { reason: LineReason, line: usize },
+}
+
+// Why a line cannot stand in a source, each with its number.
+#[derive(Clone, Copy, PartialEq, Eq, Debug)]
+pub enum LineReason {
     // the line's last byte that is no blank is a backslash
-    Continued { line: usize },
+    Continued = 9,
     // a block comment is open behind a conditional directive, a line of `#` alone, or the source
-    CommentOpen { line: usize },
+    CommentOpen = 10,
     // `#` stands first behind the comment that the line began in
-    HashBehindComment { line: usize },
+    HashBehindComment = 11,
+}
+
+impl LineReason {
+    // The fault of the line of that number.
+    pub fn on(self, line: usize) -> LineFault
+        ensures { result ≡ FaultyLine self line }
+    {
+        LineFault::Line { reason: self, line }
+    }
 }
 
 #[derive(Clone, Copy, PartialEq, Eq, Debug)]
-pub enum ConditionalFault {
+pub struct ConditionalFault {
+    pub reason: ConditionalReason,
+    pub line: usize,
+}
+
+// Why a conditional or a name cannot stand on its line, each with its number.
+#[derive(Clone, Copy, PartialEq, Eq, Debug)]
+pub enum ConditionalReason {
     // `elif`, `else` or `endif` outside a chain, or `elif` or `else` behind `else`
-    OutsideChain { line: usize },
-    TooManyChains { line: usize },
-    TooManyBlocks { line: usize },
-    TooManyNames { line: usize },
+    OutsideChain = 17,
+    TooManyChains = 18,
+    TooManyBlocks = 19,
+    TooManyNames = 20,
     // a chain is open behind the last line
-    ChainOpen { line: usize },
+    ChainOpen = 21,
+}
+
+impl ConditionalReason {
+    // The fault on the line of that number.
+    pub fn on(self, line: usize) -> ConditionalFault
+        ensures { result ≡ record { reason = self; line = line } }
+    {
+        ConditionalFault { reason: self, line }
+    }
 }
 
 #[derive(Clone, Copy, PartialEq, Eq, Debug)]
@@ -60,16 +92,13 @@ impl From<ConditionalFault> for SourceFault {
     }
 }
 
-// The numbers are the format's. They stand in this table alone, since a case with a line in it has no number of its own.
 impl From<LineFault> for Refusal {
     ghost from_gives = { λ f r. r ≡ line_fault f };
 
     fn from(f: LineFault) -> Refusal {
         let (number, line) = match f {
             LineFault::TooLarge => (8, 0),
-            LineFault::Continued { line } => (9, line),
-            LineFault::CommentOpen { line } => (10, line),
-            LineFault::HashBehindComment { line } => (11, line),
+            LineFault::Line { reason, line } => (reason as u32, line),
         };
         Refusal {
             number,
@@ -80,22 +109,14 @@ impl From<LineFault> for Refusal {
     }
 }
 
-// The numbers are the format's. They stand in this table alone, since a case with a line in it has no number of its own.
 impl From<ConditionalFault> for Refusal {
     ghost from_gives = { λ f r. r ≡ conditional_fault f };
 
     fn from(f: ConditionalFault) -> Refusal {
-        let (number, line) = match f {
-            ConditionalFault::OutsideChain { line } => (17, line),
-            ConditionalFault::TooManyChains { line } => (18, line),
-            ConditionalFault::TooManyBlocks { line } => (19, line),
-            ConditionalFault::TooManyNames { line } => (20, line),
-            ConditionalFault::ChainOpen { line } => (21, line),
-        };
         Refusal {
-            number,
+            number: f.reason as u32,
             layer: Layer::Conditionals,
-            line,
+            line: f.line,
             byte: 0,
         }
     }

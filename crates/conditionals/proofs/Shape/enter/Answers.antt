@@ -1,7 +1,8 @@
-use Rattle.std.proofs.Common.{◌≡◌, ◌<◌, ℕ, false, [], ◌∷◌, length, Ok, refl, sym, ap, ◌∙◌, rules, arith, eqb-true, List}
+use Rattle.std.proofs.Common.{◌≡◌, ◌<◌, ℕ, false, [], ◌∷◌, length, Ok, Err, refl, sym, ap, ◌∙◌, rules, arith, eqb-true, List}
 use Rattle.std.proofs.lemmas.Bool.{eqb-false}
 use Rattle.names.specs.Names.{texts}
 use Rattle.sources.specs.Faults.{conditional_fault}
+use Rattle.sources.specs.declared.fault.ConditionalFault.{ConditionalFault}
 use Rattle.conditionals.specs.Shape.{has}
 use Rattle.conditionals.specs.Answers.{shape_of}
 use Rattle.conditionals.proofs.Turns.{texts_length, texts_append, not_known, enter_full, enter_stopped, enter_done}
@@ -15,7 +16,7 @@ pub returns-then-is_full : goal.returns-then-is_full
 returns-then-is_full c =
     let s = c.args.self.now in
     let h : length s.names.items ≡ 64 = eqb-true _ _ (sym c.if-is_full.ensures.value) in
-    (enter_full c.args.line.now.number c.args.line.now.last (shape_of s) c.args.name.now (unknown (goal.at.returns-then-is_full c).After-is_full) (omega (arith, texts_length s.names.items)), refl)
+    (enter_full c.args.line.now.number c.args.line.now.last (shape_of s) c.args.name.now (unknown (goal.at.returns-then-is_full c).After-is_full) (omega (arith, texts_length s.names.items)) ∙ ap (λ (f : ConditionalFault). Err (conditional_fault f)) (sym c.on.ensures), refl)
 
 room : (c : After-is_full) → c.is_full.result ≡ false → length (texts c.args.self.now.names.items) < 64
 room c f =
