@@ -1,4 +1,3 @@
 pub mod Later
 pub mod Machine
 pub mod Values
-pub mod Turns

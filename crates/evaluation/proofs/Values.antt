@@ -1,16 +1,14 @@
 -- What an accepted run of an expression answers.
-use Rattle.std.proofs.Common.{◌≡◌, ℕ, Bool, true, not, ◌&&◌, ◌||◌, List, [], IfOk, Some, None, Ok, Err, Option, Result, sym, ap, ◌∙◌, subst, ap₂}
+use Rattle.std.proofs.Common.{◌≡◌, ℕ, Bool, true, not, ◌&&◌, ◌||◌, IfOk, Some, None, Ok, Err, Option, Result, sym, ◌∙◌, subst, ap₂}
 use Rattle.stores.specs.Sets.{Set, empty}
 use Rattle.stores.specs.Model.{Model, set_at, Appended}
 use Rattle.stores.specs.Outcome.{Op, both, either, less, Accepted}
-use Rattle.stores.specs.Steps.{Steps, then, Runs}
+use Rattle.stores.specs.Steps.{then, Runs}
 use Rattle.stores.specs.declared.fault.StoreFault.{StoreFault}
 use Rattle.stores.proofs.Runs.{ok_same, runs_split, runs_appended, asked_accepted}
 use Rattle.text.specs.Tokens.{Bytes}
 use Rattle.expressions.specs.Grammar.{Expr, never, always, named, neg, conj, disj}
-use Rattle.expressions.specs.Conditions.{Item, postfix}
-use Rattle.evaluation.proofs.Machine.{machine_all}
-use Rattle.evaluation.specs.Worked.{entry_or, op, worked, machine}
+use Rattle.evaluation.specs.Worked.{entry_or, op, worked}
 use Rattle.evaluation.specs.Meaning.{Denotes, AgreesOn, Within, Entry, Valued}
 use Rattle.evaluation.proofs.Later.{denotes_later, agrees_later, within_later, named_later, denotes_agrees, agrees_same}
 
@@ -68,11 +66,6 @@ module _ {S : Type 0} (model : S → Model) (rollback : S → ℕ → S) (need :
         let v = worked_valued e s r.1 r.0 zn tp r.2 in
         let v₂ = worked_valued f r.1 r₂.1 r₂.0 (denotes_later g zn) (top_later g tp) r₂.2 in
         λ T D w n. agrees_or (agrees_later g₂ (v T D w n)) (v₂ T D (within_later g w) (named_later g T look D n)) (denotes_op (either r.0 r₂.0) r₂.1 s' c r₂.3)
-
-    -- the steps of an expression, run one after another
-    pub machine_runs : (is : List Item) (e : Expr) (s s' : S) (r : Result ℕ StoreFault) → is ≡ postfix e → Runs model rollback need (machine is look none top []) s s' r → Runs model rollback need (worked e look none top) s s' r
-    machine_runs is e s s' r q h =
-        subst (λ (p : Steps ℕ StoreFault). Runs model rollback need p s s' r) (ap (λ (l : List Item). machine l look none top []) q ∙ machine_all look none top e) h
 
     pub worked_made : (e : Expr) (s s' : S) (r : Result ℕ StoreFault) → Denotes (model s) none empty → Denotes (model s) top (model s).allowed
         → Runs model rollback need (worked e look none top) s s' r → IfOk r (Valued (model s) (model s') look e)

@@ -2,12 +2,9 @@
 -- `look` gives the entry of a name, the number of its set; `none` and `top` are the numbers of the empty set and of the allowed configurations.
 --   entry_or o d       the entry, or d where the name has none
 --   worked e          the operations of e: operands first, left to right, no shortcuts; `!e` is `top` without e
---   first d st, rest st   the number on top of a stack (d where it is empty), and what lies below
---   one i st          what one step asks, on the stack of numbers that the steps before it left, the newest first
---   popped i st       the stack without that step's operands
---   machine is st     the steps one after another; the last number left is the answer
+--   one i a b         what the step i asks, on the numbers a and b of its operands; `!` has a alone
 --   steps_of c         the steps of the condition c of the code
-use Rattle.std.specs.Prelude.{ℕ, List, [], ◌∷◌, Some, None, Option}
+use Rattle.std.specs.Prelude.{ℕ, List, Some, None, Option}
 use Rattle.stores.specs.Outcome.{Op, both, either, less}
 use Rattle.stores.specs.Steps.{Steps, done, then, asked}
 use Rattle.stores.specs.declared.fault.StoreFault.{StoreFault}
@@ -31,33 +28,13 @@ worked (neg e) look none top = then (worked e look none top) (λ x. op (less top
 worked (conj e f) look none top = then (worked e look none top) (λ x. then (worked f look none top) (λ y. op (both x y)))
 worked (disj e f) look none top = then (worked e look none top) (λ x. then (worked f look none top) (λ y. op (either x y)))
 
-abbrev pub first : ℕ → List ℕ → ℕ
-first d [] = d
-first d (x ∷ st) = x
-
-abbrev pub rest : List ℕ → List ℕ
-rest [] = []
-rest (x ∷ st) = st
-
-abbrev pub one : Item → (Bytes → Option ℕ) → ℕ → ℕ → List ℕ → Steps ℕ StoreFault
-one false-item look none top st = done none
-one true-item look none top st = done top
-one (name_item x) look none top st = done (entry_or (look x) none)
-one not-item look none top st = op (less top (first none st))
-one and_item look none top st = op (both (first none (rest st)) (first none st))
-one or-item look none top st = op (either (first none (rest st)) (first none st))
-
-abbrev pub popped : Item → List ℕ → List ℕ
-popped false-item st = st
-popped true-item st = st
-popped (name_item x) st = st
-popped not-item st = rest st
-popped and_item st = rest (rest st)
-popped or-item st = rest (rest st)
-
-abbrev pub machine : List Item → (Bytes → Option ℕ) → ℕ → ℕ → List ℕ → Steps ℕ StoreFault
-machine [] look none top st = done (first none st)
-machine (i ∷ is) look none top st = then (one i look none top st) (λ c. machine is look none top (c ∷ popped i st))
+abbrev pub one : Item → (Bytes → Option ℕ) → ℕ → ℕ → ℕ → ℕ → Steps ℕ StoreFault
+one false-item look none top a b = done none
+one true-item look none top a b = done top
+one (name_item x) look none top a b = done (entry_or (look x) none)
+one not-item look none top a b = op (less top a)
+one and_item look none top a b = op (both a b)
+one or-item look none top a b = op (either a b)
 
 abbrev pub steps_of : Condition → List Item
 steps_of c = items c.steps.items

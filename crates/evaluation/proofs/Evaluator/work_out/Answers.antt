@@ -1,19 +1,16 @@
-use Rattle.std.proofs.Common.{◌≡◌, ap, ◌∙◌}
-use Rattle.expressions.specs.Grammar.{Expr}
-use Rattle.expressions.specs.Conditions.{items, postfix}
-use Rattle.evaluation.specs.Worked.{steps_of}
-use Rattle.evaluation.proofs.Values.{machine_runs, worked_made}
+use Rattle.evaluation.proofs.Machine.{works_runs}
+use Rattle.evaluation.proofs.Values.{worked_made}
 use Rattle.evaluation.proofs.Evaluator.work_out.Goals as goal
 
-pub returns : goal.returns
-returns g c =
+pub returns-clause-runs : goal.returns-clause-runs
+returns-clause-runs g c e q =
     let s = g.S.Store in
     let k = c.args.self.now.known in
-    let look = g.E.Entries.lookup c.args.self.now.entries in
-    let is : items c.steps.result.now ≡ steps_of c.args.condition.now = ap items c.steps.ensures.value in
-    let runs = λ (e : Expr) (q : steps_of c.args.condition.now ≡ postfix e). machine_runs s.model s.rollback s.need look k.none k.top (items c.steps.result.now) e c.args.store.now c.work_steps.new.store c.work_steps.result (is ∙ q) c.work_steps.ensures.runs in
-    record {
-      advanced = c.work_steps.ensures.advanced;
-      runs = runs;
-      means = λ e q zn tp. worked_made s.model s.rollback s.need look k.none k.top e c.args.store.now c.work_steps.new.store c.work_steps.result zn tp (runs e q);
-    }
+    let w = c.work_out.ensures.works e q in
+    works_runs s.model s.rollback s.need (g.E.Entries.lookup c.args.self.now.entries) k.none k.top w.0 e c.args.store.now c.work_out.result c.work_out.new.state w.1
+
+pub returns-clause-means : goal.returns-clause-means
+returns-clause-means g c e q zn tp =
+    let s = g.S.Store in
+    let k = c.args.self.now.known in
+    worked_made s.model s.rollback s.need (g.E.Entries.lookup c.args.self.now.entries) k.none k.top e c.args.store.now c.work_out.new.state c.work_out.result zn tp (returns-clause-runs g c e q)
