@@ -144,6 +144,7 @@ impl<'a> Store for Bitmaps<'a> {
         Ok(self.slots().lowest(a))
     }
 
+    // As over diagrams: one function that takes how slots or cells are cut would be longer.
     fn cut(&mut self, to: u32) {
         let kept = to.max(FLOOR);
         if kept < self.len() {

@@ -192,18 +192,18 @@ fn change_marks<S: Store>(store: &mut S, marks: Marks, act: Act) -> Marks {
     }
 }
 
-// What the store answers to an operation; 0 to a change of marks.
-fn ask<S: Store>(store: &mut S, act: Act) -> Result<u32, StoreFault> {
+// What the store answers to an operation; a change of marks has no answer.
+fn ask<S: Store>(store: &mut S, act: Act) -> Option<Result<u32, StoreFault>> {
     match act {
-        Act::Switch(i) => store.switch(i),
-        Act::Join(connective, a, b) => store.join(connective, a, b),
-        _ => Ok(0),
+        Act::Switch(i) => Some(store.switch(i)),
+        Act::Join(connective, a, b) => Some(store.join(connective, a, b)),
+        _ => None,
     }
 }
 
 // The answer to the last act, after all before it.
-fn replay<S: Store>(store: &mut S, acts: &[Act]) -> Result<u32, StoreFault> {
-    let mut answer = Ok(0);
+fn replay<S: Store>(store: &mut S, acts: &[Act]) -> Option<Result<u32, StoreFault>> {
+    let mut answer = None;
     let mut marks = Marks::default();
     for act in acts {
         answer = ask(store, *act);
@@ -334,6 +334,7 @@ impl Model {
                 (Some(a), Some(b)) => Ok(joined(connective, &a, &b)),
                 _ => Err(StoreFault::NoNumber),
             },
+            // a change of marks answers nothing, and is not asked for here
             _ => Ok([0; TABLE_WORDS]),
         }
     }
@@ -493,11 +494,11 @@ impl<R: Abort> Run<'_, R> {
         store: &S,
         model: &mut Model,
         act: Act,
-        answer: Result<u32, StoreFault>,
+        answer: Option<Result<u32, StoreFault>>,
     ) -> Result<(), Fail> {
-        match act {
-            Act::Switch(_) | Act::Join(..) => self.check_answer(store, model, act, answer),
-            _ => {
+        match answer {
+            Some(answer) => self.check_answer(store, model, act, answer),
+            None => {
                 model.change_marks(act, &mut self.tally);
                 Ok(())
             }

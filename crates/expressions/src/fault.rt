@@ -47,6 +47,7 @@ impl ExpressionFault {
     }
 }
 
+// `LineTooLong` stands beside a case with fields, so its number stands here.
 impl From<ExpressionFault> for Refusal {
     ghost use Rattle.std.specs.Prelude.{◌≡◌};
     ghost use Rattle.expressions.specs.Faults.{described};

@@ -21,7 +21,7 @@ impl From<StoreFault> for LayerFault {
     }
 }
 
-// A layer is made outside the lines, so no refusal names one. The number is the format's.
+// A layer is made outside the lines, so no refusal names one. `NoneAllowed` stands beside a case with a field, so its number stands here.
 impl From<LayerFault> for Refusal {
     ghost use Rattle.layers.specs.Faults.{described};
 

@@ -24,6 +24,7 @@ pub enum PreprocessingFault {
 
 impl PreprocessingFault {
     // The refusal, if it is one: want of memory says nothing of the source. So it is no From.
+    // `Names` and `NoConfiguration` stand beside a case with a field, so their numbers stand here.
     pub fn refusal(self) -> Option<Refusal>
         ensures { result ≡ described self }
     {

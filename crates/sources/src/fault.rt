@@ -92,6 +92,7 @@ impl From<ConditionalFault> for SourceFault {
     }
 }
 
+// `TooLarge` stands beside a case with fields, so its number stands here.
 impl From<LineFault> for Refusal {
     ghost from_gives = { λ f r. r ≡ line_fault f };
 
