@@ -1,5 +1,9 @@
 // What the programs over rule texts do, whatever store they take. May use every crate below it but no one store.
+// Promises: the status 0 only of a text that has a judgement, 1 only of one that is refused with a number.
 #![tactic(auto)]
+
+ghost use Rattle.std.specs.Prelude.{IfOk};
+ghost use Rattle.checking.specs.Ends.{Ends};
 
 use judging::judge;
 use reporting::refuse;
@@ -12,7 +16,9 @@ use stores::in_words::InWords;
 pub fn check<'w, S: InWords<'w> + Drop>(
     rt: &HostRuntime,
     words: &'w mut [S::Word],
-) -> anyhow::Result<ExitCode> {
+) -> anyhow::Result<ExitCode>
+    ensures { IfOk result (Ends S.Store S.lies_in S.due S.room S.renewed words.old) }
+{
     let heap = rt.alloc();
     let mut text = Vec::new(heap);
     rt.stdin().read_to_end(&mut text)?;

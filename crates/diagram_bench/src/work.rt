@@ -85,7 +85,8 @@ impl<S: Store> Counting<S> {
         Ok(all)
     }
 
-    // From "at least j of the switches so far are on", for all j, to the same with one more switch.
+    // From "at least j of the switches so far are on", for all j, to the same with one more switch. By index: each entry is made of itself and of the
+    // one before it, as that was.
     fn count_switch(&mut self, row: &mut [u32; ROW], on: u32) -> Result<(), StoreFault> {
         for j in (1..ROW).rev() {
             let more = self.both(on, row[j - 1])?;

@@ -105,6 +105,7 @@ fn lacking(heap: Global, n: u32, held: &[Table], set: Table) -> Result<Vec<Table
     Ok(missing)
 }
 
+// Data and no closures: a list of acts is drawn once, and done again on a new store.
 #[derive(Clone, Copy)]
 enum Act {
     Switch(u32),

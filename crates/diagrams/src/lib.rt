@@ -91,6 +91,7 @@ impl<'a> Store for Diagrams<'a> {
         Ok(self.cells().lowest(a))
     }
 
+    // As over bitmaps: one function that takes how slots or cells are cut would be longer.
     fn cut(&mut self, to: u32) {
         let kept = to.max(FLOOR);
         if kept < self.len() {

@@ -13,6 +13,7 @@ pub fn is_blank(b: u8) -> bool
 }
 
 // What is left behind the blanks and block comments in front of a line that begins in code; nothing where a comment has no end.
+// Not the gap in front of a token in `text`, where `//` begins a comment and a line feed is no blank: one loop for both would ask at each byte which is meant.
 pub fn after_gap(line: &[u8]) -> &[u8]
     ensures value { result.now ≡ skip between line.now }
     ensures law { Skipped line.now result.now }

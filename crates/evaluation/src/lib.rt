@@ -1,4 +1,4 @@
-// Working a condition out over any store. May use `stores`, `text` and `expressions`.
+// Working a condition out over any store. May use `stores`, `text`, `expressions` and `stack_machine`.
 // Promises: the operations asked and their order, the first refusal among them, and the set that the answer holds.
 #![tactic(auto)]
 
@@ -23,6 +23,14 @@ pub trait Entries {
 
     fn get(&self, name: &[u8]) -> Option<u32>
         ensures { result ≡ lookup self.now name.now };
+}
+
+impl<E: Entries> Entries for &E {
+    ghost lookup = { λ by. E.lookup by.now };
+
+    fn get(&self, name: &[u8]) -> Option<u32> {
+        (**self).get(name)
+    }
 }
 
 // The numbers of the empty set and of the allowed configurations.

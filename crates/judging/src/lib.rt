@@ -61,7 +61,8 @@ pub fn judge_over<S: Store + Drop>(
     Ok((standings, lowest))
 }
 
-// What the rules of a text leave: the switches' names, how each stands, and the lowest allowed configuration.
+// What the rules of a text leave: the switches' names, how each stands, in the same order, and the lowest allowed configuration. Two lists: the names
+// are handed on as they were read, and pairs would be a third list, for which memory could be wanting.
 #[derive(Drop)]
 pub struct Judgement<'a> {
     pub names: Vec<&'a [u8]>,

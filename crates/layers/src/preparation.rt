@@ -6,7 +6,7 @@ use arrayvec::ArrayVec;
 use stores::{MAX_SWITCHES, Store};
 
 // The number of what the rules allow, that of those with each switch on, and how many sets were held then.
-#[derive(Drop)]
+#[derive(Clone, Drop)]
 pub struct Prepared {
     pub top: u32,
     pub floor: u32,

@@ -1,4 +1,5 @@
 // The operations on the sets of cells: shortcuts, the memory of answers, the two sides, then the cell over them.
+// What writes takes the bare words, for the reason that `pool` of `cells` gives.
 ghost use Rattle.std.specs.Prelude.{◌≡◌, ◌<◌, ◌≤◌, OnOk};
 ghost use Rattle.stores.specs.declared.fault.StoreFault.TheVariants.{NoNumber};
 ghost use Rattle.cells.specs.Cells.{level, low_at, high_at};

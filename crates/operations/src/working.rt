@@ -1,4 +1,5 @@
 // The working words, which remember the answers at pairs of cells while one operation runs, and are zero between operations.
+// What writes takes the bare words, for the reason that `pool` of `cells` gives.
 ghost use Rattle.std.specs.Prelude.{◌≡◌, ◌+◌, ◌*◌, ◌<◌, ◌≤◌, length, IfSome};
 ghost use Rattle.operations.specs.Ops.{meaning};
 ghost use Rattle.cells.specs.Words.{count, Correct, Remembers, slot, remembered, Swept};

@@ -67,7 +67,7 @@ pub fn all(
     Ok(())
 }
 
-// `before`, then `count` times `part`, then `behind`.
+// `before`, then `count` times `part`, then `behind`. As in `source_tests`, parameters and all: a crate for two lines would be no plainer.
 pub fn repeated(
     heap: Global,
     before: &str,

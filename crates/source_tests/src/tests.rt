@@ -139,7 +139,7 @@ fn refused_calls(rt: HostRuntime) -> Result<(), Fail> {
     Ok(())
 }
 
-// `before`, then `count` times `part`, then `behind`. As in `rule_tests`: a crate for two lines would be no plainer.
+// `before`, then `count` times `part`, then `behind`. As in `rule_tests`, parameters and all: a crate for two lines would be no plainer.
 fn repeated(
     heap: Global,
     before: &str,

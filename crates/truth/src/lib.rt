@@ -1,4 +1,4 @@
-// The truth value of a condition, where some names are defined. May use `text`, `names`, `expressions` and `sources`.
+// The truth value of a condition, where some names are defined. May use `text`, `names`, `expressions`, `sources` and `stack_machine`.
 // Promises: the value of the expression whose steps the condition has.
 #![tactic(auto)]
 
