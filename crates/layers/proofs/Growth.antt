@@ -19,7 +19,7 @@ appended_untouched f g =
     record { same = g.same; high = omega (arith, g.len, f.high); sets = λ j h. set_before g j (omega (arith, f.high)) }
 
 -- the layer's model grows as the store's does
-over_appended : {m m' : Model} {p : Prepared} {more : ℕ} → Fits m p → Appended m m' more → Appended (over m p) (over m' p) more
+pub over_appended : {m m' : Model} {p : Prepared} {more : ℕ} → Fits m p → Appended m m' more → Appended (over m p) (over m' p) more
 over_appended f g = record { same = over_unmoved f (appended_untouched f g); before = g.before; len = g.len }
 
 -- an operation below leaves what was prepared in order
@@ -34,7 +34,7 @@ module _ {S : Type 0} {T : Ghosts S} (l : Layer S T) (s' : S) (f' : Fits (T.mode
   replaced = record { below = s'; prepared = l.prepared; fits = f' }
 
   -- an operation that means, refuses and needs the same above as below is passed on
-  outcome_over : (op : Op) (r : Result ℕ StoreFault)
+  pub outcome_over : (op : Op) (r : Result ℕ StoreFault)
       → refusal (layer_model l) (layer_need l op) op ≡ refusal (T.model l.below) (T.need l.below op) op
       → layer_need l op ≡ T.need l.below op → result (layer_model l) op ≡ result (T.model l.below) op → Outcome T.model T.rollback T.need l.below s' op r
       → Outcome (λ (l : Layer S T). layer_model l) (λ (l : Layer S T) (k : ℕ). layer_rollback l k) (λ (l : Layer S T) (op : Op). layer_need l op) l replaced op r
@@ -66,7 +66,7 @@ module _ {S : Type 0} {T : Ghosts S} (l : Layer S T) (s' : S) (f' : Fits (T.mode
 -- a switch is answered from what was prepared
 pub switch_over : {S : Type 0} {T : Ghosts S} (l : Layer S T) (i : ℕ) → i < (T.model l.below).n
     → Outcome (λ (l : Layer S T). layer_model l) (λ (l : Layer S T) (k : ℕ). layer_rollback l k) (λ (l : Layer S T) (op : Op). layer_need l op) l l (switch i)
-    (Ok (get_or l.prepared.switches.items i 0))
+    (Ok (get_or l.prepared.switches i 0))
 switch_over {S} {T} l i h =
     let m = T.model l.below in
     record {

@@ -1,7 +1,7 @@
 -- What a run of the steps of preparing comes to.
-use Rattle.std.proofs.Common.{◌≡◌, ℕ, zero, suc, ◌+◌, ◌<◌, Bool, true, false, cond, ◌&&◌, List, [], ◌∷◌, ◌++◌, length, get_or, Ok, Err, Result, sym, refl, ap, ◌∙◌, subst, ap₂, ⊎_elim, arith, below_more}
+use Rattle.std.proofs.Common.{◌≡◌, ℕ, zero, suc, ◌+◌, ◌<◌, Bool, true, false, cond, ◌&&◌, List, [], ◌∷◌, ◌++◌, length, get_or, take, Ok, Err, Result, sym, refl, ap, ◌∙◌, subst, ap₂, ⊎_elim, arith, get_or-take, below_more}
 use mathlib.Core.Path.{fun_ext}
-use Rattle.std.proofs.lemmas.List.{get_or_append_left, get_or_push, length_push}
+use Rattle.std.proofs.lemmas.List.{get_or_append_left, get_or_push, length_push, length-take}
 use Rattle.stores.specs.Sets.{Set, ◌∩◌, on, Empty}
 use Rattle.stores.specs.Model.{Model, set_at, size, Appended, Consistent}
 use Rattle.stores.specs.Outcome.{Op, both, Accepted}
@@ -148,7 +148,7 @@ module _ {S : Type 0} (model : S → Model) (rollback : S → ℕ → S) (need :
 
     -- accepted, what was prepared fits the store
     pub fits_after : (p : Prepared) → Consistent (model s') → p.floor ≡ size (model s') → (model s').n ≡ (model s).n
-        → Runs model rollback need (preparing (model s).n top a) s s' (Ok (p.top, p.switches.items))
+        → Runs model rollback need (preparing (model s).n top a) s s' (Ok (p.top, take (model s).n p.switches))
         → (set_at (model s') p.top ≡ (model s).allowed ∩ set_at (model s) a) × Fits (model s') p
     fits_after p ok fl en run = ⊎_elim
         (λ f. absurd (ok_not_err f.2))
@@ -166,16 +166,17 @@ module _ {S : Type 0} (model : S → Model) (rollback : S → ℕ → S) (need :
         let rest = after_accepted n c.0 s₁ s' _ c.3.0 c.3.3 in
         let some = subst (TellsEmpty (set_at (model s₁) c.0)) rest.0 c.3.2 in
         let w = switching_sets n 0 c.0 [] s₁ s' _ al none rest.1 in
-        let topped : set_at m' p.top ≡ set_at (model s₁) c.0 = ap (set_at m') w.top ∙ w.same in (
+        let topped : set_at m' p.top ≡ set_at (model s₁) c.0 = ap (set_at m') w.top ∙ w.same in
+        let nth : (i : ℕ) → i < m'.n → get_or (take n p.switches) i 0 ≡ get_or p.switches i 0 = λ i lt. get_or-take n p.switches i 0 (omega (arith, en, lt)) in (
           topped ∙ set,
           record {
             top = omega (arith, w.top, w.within, fl);
             low = omega (arith, ok.floor, fl);
             high = omega (arith, fl);
             some = λ v. some (λ k. ap (λ (t : Set). t k) (sym topped) ∙ v k);
-            all = omega (arith, w.switched.len, en);
-            within = λ i lt. omega (arith, w.switched.within i (omega (arith, en, lt)), fl);
-            set = λ i lt. w.switched.sets i (omega (arith, en, lt)) ∙ ap (λ (r : ℕ). set_at m' r ∩ on i) (sym w.top);
+            all = omega (arith, w.switched.len, length-take n p.switches, en);
+            within = λ i lt. omega (arith, nth i lt, w.switched.within i (omega (arith, en, lt)), fl);
+            set = λ i lt. ap (set_at m') (sym (nth i lt)) ∙ w.switched.sets i (omega (arith, en, lt)) ∙ ap (λ (r : ℕ). set_at m' r ∩ on i) (sym w.top);
           },
         ))
         run

@@ -1,6 +1,6 @@
 -- Preparing, turn by turn.
-use Rattle.std.proofs.Common.{◌≡◌, ℕ, suc, ◌+◌, ◌-◌, ◌<◌, ◌≤◌, Bool, true, false, List, [], ◌∷◌, ◌++◌, length, is_some, IsErrAnd, Some, None, Ok, Err, Option, Result, sym, refl, ap, ◌∙◌, subst, inl, inr, arith}
-use Rattle.std.proofs.lemmas.List.{length_push}
+use Rattle.std.proofs.Common.{◌≡◌, ℕ, suc, ◌+◌, ◌-◌, ◌<◌, ◌≤◌, Bool, true, false, List, [], length, take, set, is_some, IsErrAnd, Some, None, Ok, Err, Option, Result, sym, refl, ap, ◌∙◌, subst, inl, inr, arith, length-set}
+use Rattle.std.proofs.lemmas.List.{take_more_set}
 use Rattle.std.proofs.lemmas.Result.{err_from_is_err_and}
 use Rattle.stores.specs.Sets.{Set, Empty, LowestIf}
 use Rattle.stores.specs.Model.{Model, set_at, size}
@@ -22,8 +22,8 @@ module _ {S : Type 0} (model : S → Model) (rollback : S → ℕ → S) (need :
   -- the switches below i are done, and what the rest of the steps comes to is what all of them come to
   pub record Turn (n R : ℕ) (s₁ : S) (i : ℕ) (sw : List ℕ) (t : S) : Type 0 where
     pub advanced : Advanced model rollback s₁ t
-    pub len : length sw ≡ i
-    pub leads : (t' : S) (r : Result Numbers LayerFault) → Runs model rollback need (switching (n - i) i R sw) t t' r → Runs model rollback need (switching n 0 R []) s₁ t' r
+    pub len : length sw ≡ 24
+    pub leads : (t' : S) (r : Result Numbers LayerFault) → Runs model rollback need (switching (n - i) i R (take i sw)) t t' r → Runs model rollback need (switching n 0 R []) s₁ t' r
 
 some_of : (a : Set) (o : Option ℕ) → is_some o ≡ true → LowestIf a o → Empty a → ⊥
 some_of a (Some k) is low none = let e : ◌≡◌ {A = Bool} true false = sym low.within ∙ none k in let z : ◌≡◌ {A = ℕ} 0 1 = cc in omega arith
@@ -70,30 +70,26 @@ module _ {S : Type 0} {model : S → Model} {rollback : S → ℕ → S} (laws :
       let e' : n ≡ (model s).n = e ∙ b.first.grown.appended.same.n in
       inr (R, s₁, b.first, (false, b.first.within, b.some, subst (λ (k : ℕ). Runs model rollback need (switching k 0 R []) s₁ s₂ r) e' h))
 
-  pub turn_first : {n R : ℕ} {s₁ : S} {sw : List ℕ} → sw ≡ [] → Turn model rollback need n R s₁ 0 sw s₁
-  turn_first {n} {R} {s₁} {sw} none =
+  pub turn_first : {n R : ℕ} {s₁ : S} {sw : List ℕ} → length sw ≡ 24 → Turn model rollback need n R s₁ 0 sw s₁
+  turn_first {n} {R} {s₁} len =
       let e : n - 0 ≡ n = omega arith in
-      record {
-        advanced = advanced_none laws;
-        len = ap length none;
-        leads = λ t' r h. subst (λ (ys : List ℕ). Runs model rollback need (switching n 0 R ys) s₁ t' r) none
-            (subst (λ (k : ℕ). Runs model rollback need (switching k 0 R sw) s₁ t' r) e h);
-      }
+      record { advanced = advanced_none laws; len = len; leads = λ t' r h. subst (λ (k : ℕ). Runs model rollback need (switching k 0 R []) s₁ t' r) e h }
 
   -- one switch is next
   opened : {n R i : ℕ} {s₁ t : S} {sw : List ℕ} → Turn model rollback need n R s₁ i sw t → i < n → (t' : S) (r : Result Numbers LayerFault)
-      → Runs model rollback need (switching (suc (n - (i + 1))) i R sw) t t' r → Runs model rollback need (switching n 0 R []) s₁ t' r
+      → Runs model rollback need (switching (suc (n - (i + 1))) i R (take i sw)) t t' r → Runs model rollback need (switching n 0 R []) s₁ t' r
   opened {n} {R} {i} {s₁} {t} {sw} turn lt t' r run =
       let e : suc (n - (i + 1)) ≡ n - i = omega arith in
-      turn.leads t' r (subst (λ (k : ℕ). Runs model rollback need (switching k i R sw) t t' r) e run)
+      turn.leads t' r (subst (λ (k : ℕ). Runs model rollback need (switching k i R (take i sw)) t t' r) e run)
 
-  pub turn_more : {n R i x y : ℕ} {s₁ t t₁ t₂ : S} {sw sw' : List ℕ} → Turn model rollback need n R s₁ i sw t → i < n
+  pub turn_more : {n R i x y : ℕ} {s₁ t t₁ t₂ : S} {sw : List ℕ} → Turn model rollback need n R s₁ i sw t → i < n → i < 24
       → Accepted model rollback t t₁ (need t (switch i)) (switch i) x → Accepted model rollback t₁ t₂ (need t₁ (both R x)) (both R x) y
-      → sw' ≡ sw ++ y ∷ [] → Turn model rollback need n R s₁ (i + 1) sw' t₂
-  turn_more {n} {R} {i} {x} {y} {s₁} {t} {t₁} {t₂} {sw} {sw'} turn lt one two more =
+      → Turn model rollback need n R s₁ (i + 1) (set sw i y) t₂
+  turn_more {n} {R} {i} {x} {y} {s₁} {t} {t₁} {t₂} {sw} turn lt few one two =
+      let within : i < length sw = omega (arith, turn.len) in
       record {
         advanced = advanced_trans laws turn.advanced (advanced_trans laws (accepted_advanced one) (accepted_advanced two));
-        len = ap length more ∙ length_push sw y ∙ ap (λ (k : ℕ). k + 1) turn.len;
+        len = length-set sw i y ∙ turn.len;
         leads = λ t' r h. opened turn lt t' r (inr (
           x,
           t₁,
@@ -102,7 +98,7 @@ module _ {S : Type 0} {model : S → Model} {rollback : S → ℕ → S} (laws :
             y,
             t₂,
             two,
-            subst (λ (ys : List ℕ). Runs model rollback need (switching (n - (i + 1)) (i + 1) R ys) t₂ t' r) more h,
+            subst (λ (ys : List ℕ). Runs model rollback need (switching (n - (i + 1)) (i + 1) R ys) t₂ t' r) (take_more_set sw i y within) h,
           ),
         ));
       }
@@ -124,14 +120,15 @@ module _ {S : Type 0} {model : S → Model} {rollback : S → ℕ → S} (laws :
       (advanced_trans laws turn.advanced (advanced_trans laws (accepted_advanced one) (refused_advanced h))))
       (runs_begun b en (opened turn lt t₂ (Err (Store f)) (inr (x, t₁, one, inl (f, record { due = h.due; same = refl }, refl, h.same)))))
 
-  pub turn_last : {s s₁ t : S} {n top a R i : ℕ} {sw : List ℕ} (p : Prepared) → Begun model rollback need s s₁ top a R → n ≡ (model s₁).n → Turn model rollback need n R s₁ i sw t
-      → n ≤ i → i ≤ n → p.top ≡ R → p.floor ≡ size (model t) → p.switches.items ≡ sw → WorksOut model rollback need s t top a (Ok p)
-  turn_last {s} {s₁} {t} {n} {top} {a} {R} {i} {sw} p b en turn le ge tops is all =
+  pub turn_last : {s s₁ t : S} {n top a R i fl : ℕ} {sw : List ℕ} → Begun model rollback need s s₁ top a R → n ≡ (model s₁).n → Turn model rollback need n R s₁ i sw t
+      → n ≤ i → i ≤ n → fl ≡ size (model t) → WorksOut model rollback need s t top a (Ok (record { top = R; floor = fl; switches = sw }))
+  turn_last {s} {s₁} {t} {n} {top} {a} {R} {i} {fl} {sw} b en turn le ge is =
       let none : 0 ≡ n - i = omega arith in
-      let r : Result Numbers LayerFault = Ok (p.top, p.switches.items) in
-      let run : Runs model rollback need (switching 0 i R sw) t t r = ((λ j. Ok (tops j, all j)), refl) in
+      let all : i ≡ (model s).n = omega (arith, en, b.first.grown.appended.same.n) in
+      let r : Result Numbers LayerFault = Ok (R, take (model s).n sw) in
+      let run : Runs model rollback need (switching 0 i R (take i sw)) t t r = (ap (λ (k : ℕ). Ok (R, take k sw)) (sym all), refl) in
       record {
         advanced = advanced_trans laws (accepted_advanced b.first) turn.advanced;
-        runs = runs_begun b en (turn.leads t r (subst (λ (k : ℕ). Runs model rollback need (switching k i R sw) t t r) none run));
+        runs = runs_begun b en (turn.leads t r (subst (λ (k : ℕ). Runs model rollback need (switching k i R (take i sw)) t t r) none run));
         floor = is;
       }

@@ -1,6 +1,7 @@
 -- What was prepared for a rule layer, and the meaning that it gives to the store below. Assumes nothing.
 --   Fits m p     what was prepared fits a store that means m: the top is the number of a non-empty set; there is a number for each
---                switch, and the i-th holds those of it with switch i on; all are below the floor, which lies between the store's floor and its length
+--                switch, and the i-th holds those of it with switch i on; these are below the floor, which lies between the store's floor and its
+--                length; what is behind them means nothing
 --   Untouched m m' k   all is as it was but the held sets from number k on
 --   fits_on            what fits a store fits it as long as the sets below the floor are untouched
 --   cut_untouched      they are by a release that stops at the floor
@@ -19,9 +20,9 @@ pub record Fits (m : Model) (p : Prepared) : Type 0 where
   pub low : m.floor ≤ p.floor
   pub high : p.floor ≤ length m.held
   pub some : Empty (set_at m p.top) → ⊥
-  pub all : length p.switches.items ≡ m.n
-  pub within : (i : ℕ) → i < m.n → slice_index p.switches.items i < p.floor
-  pub set : (i : ℕ) → i < m.n → set_at m (slice_index p.switches.items i) ≡ set_at m p.top ∩ on i
+  pub all : m.n ≤ length p.switches
+  pub within : (i : ℕ) → i < m.n → slice_index p.switches i < p.floor
+  pub set : (i : ℕ) → i < m.n → set_at m (slice_index p.switches i) ≡ set_at m p.top ∩ on i
 
 abbrev pub over : Model → Prepared → Model
 over m p = record { n = m.n; allowed = set_at m p.top; held = m.held; floor = p.floor; capacity = m.capacity }
@@ -45,12 +46,12 @@ fits_on {m} {m'} {p} f u =
       top = f.top;
       low = omega (arith, u.same.floor, f.low);
       high = u.high;
-      all = f.all ∙ sym u.same.n;
+      all = omega (arith, u.same.n, f.all);
       some = λ h. f.some (λ k. ap (λ (s : Set). s k) (sym top) ∙ h k);
       within = λ i h. let h' : i < m.n = omega (arith, u.same.n, h) in f.within i h';
       set = λ i h.
           let h' : i < m.n = omega (arith, u.same.n, h) in
-          u.sets (slice_index p.switches.items i) (f.within i h') ∙ f.set i h' ∙ ap (λ (s : Set). s ∩ on i) (sym top);
+          u.sets (slice_index p.switches i) (f.within i h') ∙ f.set i h' ∙ ap (λ (s : Set). s ∩ on i) (sym top);
     }
 
 pub cut_untouched : {m m' : Model} {p : Prepared} {to : ℕ} → Fits m p → p.floor ≤ to → CutTo m m' to → Untouched m m' p.floor

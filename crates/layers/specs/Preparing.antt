@@ -3,7 +3,7 @@
 --   Numbers                     R, and for each switch the number of those of R with it on
 --   switching left i R before   for `left` switches from i upward, switch(i) and both(R, that); answers R, and the numbers of the latter after `before`
 --   preparing n top a           R = both(top, a), refused where R is empty, then the n switches from 0
---   answered r                  the result r of preparing, in the form in which these steps answer
+--   answered n r                the result r of preparing, in the form in which these steps answer
 --   Measured m r                the floor prepared is the number of sets held
 --   WorksOut s s' top a r       these steps were asked, and answer r; the store was only extended, even if they are refused
 --   Attempts s s' a r           these steps were asked, from a number `top` of the allowed set, and answer r; if they are refused, the store is as it was
@@ -11,7 +11,7 @@
 --                               the number of sets held
 --   PrepareRefused s s' a f     the store is as it was; where the rules are the reason, nothing of set a is allowed
 --   Prepares s s' a r           one or the other, by the result r
-use Rattle.std.specs.Prelude.{◌≡◌, ℕ, zero, suc, ◌+◌, ◌<◌, cond, List, [], ◌∷◌, ◌++◌, Ok, Err, Result}
+use Rattle.std.specs.Prelude.{◌≡◌, ℕ, zero, suc, ◌+◌, ◌<◌, cond, List, [], ◌∷◌, ◌++◌, take, Ok, Err, Result}
 use Rattle.stores.specs.Sets.{◌∩◌, Empty}
 use Rattle.stores.specs.Model.{Model, set_at, size}
 use Rattle.stores.specs.Outcome.{Op, switch, both, Advanced}
@@ -31,9 +31,9 @@ switching (suc left) i R before = ask (switch i) Store (λ x. ask (both R x) Sto
 abbrev pub preparing : ℕ → ℕ → ℕ → Steps Numbers LayerFault
 preparing n top a = ask (both top a) Store (λ R. test R (λ is_empty. cond is_empty (fail NoneAllowed) (switching n 0 R [])))
 
-abbrev pub answered : Result Prepared LayerFault → Result Numbers LayerFault
-answered (Ok p) = Ok (p.top, p.switches.items)
-answered (Err f) = Err f
+abbrev pub answered : ℕ → Result Prepared LayerFault → Result Numbers LayerFault
+answered n (Ok p) = Ok (p.top, take n p.switches)
+answered n (Err f) = Err f
 
 abbrev pub Measured : Model → Result Prepared LayerFault → Type 0
 Measured m (Ok p) = p.floor ≡ size m
@@ -41,14 +41,14 @@ Measured m (Err f) = Unit {0}
 
 pub record WorksOut {S : Type 0} (model : S → Model) (rollback : S → ℕ → S) (need : S → Op → ℕ) (s s' : S) (top a : ℕ) (r : Result Prepared LayerFault) : Type 0 where
   pub advanced : Advanced model rollback s s'
-  pub runs : Runs model rollback need (preparing (model s).n top a) s s' (answered r)
+  pub runs : Runs model rollback need (preparing (model s).n top a) s s' (answered (model s).n r)
   pub floor : Measured (model s') r
 
 pub record Attempts {S : Type 0} (model : S → Model) (rollback : S → ℕ → S) (need : S → Op → ℕ) (s s' : S) (a : ℕ) (r : Result Prepared LayerFault) : Type 0 where
   pub top : ℕ
   pub low : top < (model s).floor
   pub all : set_at (model s) top ≡ (model s).allowed
-  pub steps : Attempt model rollback need (preparing (model s).n top a) s s' (answered r)
+  pub steps : Attempt model rollback need (preparing (model s).n top a) s s' (answered (model s).n r)
 
 pub record PrepareAccepted {S : Type 0} (model : S → Model) (rollback : S → ℕ → S) (s s' : S) (a : ℕ) (p : Prepared) : Type 0 where
   pub advanced : Advanced model rollback s s'

@@ -116,7 +116,7 @@ impl<S: Store> Store for Layer<S> {
         if i >= self.switches() {
             return Err(StoreFault::NoSwitch);
         }
-        Ok(self.prepared.switches.as_slice()[i as usize])
+        Ok(self.prepared.switches[i as usize])
     }
 
     fn join(&mut self, how: Connective, a: u32, b: u32) -> Result<u32, StoreFault> {

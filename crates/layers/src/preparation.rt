@@ -2,15 +2,14 @@
 ghost use Rattle.layers.specs.Preparing.{WorksOut, Attempts, Prepares};
 
 use crate::fault::LayerFault;
-use arrayvec::ArrayVec;
 use stores::{MAX_SWITCHES, Store};
 
 // The number of what the rules allow, that of those with each switch on, and how many sets were held then.
-#[derive(Clone, Drop)]
+#[derive(Clone, Copy)]
 pub struct Prepared {
     pub top: u32,
     pub floor: u32,
-    pub switches: ArrayVec<u32, MAX_SWITCHES>,
+    pub switches: [u32; MAX_SWITCHES],
 }
 
 // Holds no mark, so `?` may leave it; what was appended before a refusal is then still held.
@@ -21,10 +20,10 @@ fn work_out<S: Store>(store: &mut S, all: u32, a: u32) -> Result<Prepared, Layer
     if store.find(top)?.is_none() {
         return Err(LayerFault::NoneAllowed);
     }
-    let mut switches = ArrayVec::new();
+    let mut switches = [0; MAX_SWITCHES];
     for i in 0..store.switches() {
         let x = store.switch(i)?;
-        switches.push(store.both(top, x)?);
+        switches[i as usize] = store.both(top, x)?;
     }
     let floor = store.len();
     Ok(Prepared {

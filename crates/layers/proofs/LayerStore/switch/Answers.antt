@@ -3,4 +3,4 @@ use Rattle.layers.proofs.Growth.{switch_over}
 use Rattle.layers.proofs.LayerStore.switch.Goals as goal
 
 pub returns : goal.returns
-returns g c = rw c.as_slice.ensures.value (switch_over c.args.self.now c.args.i (omega (arith, c.if-i-switches.false, c.switches.ensures)))
+returns g c = switch_over c.args.self.now c.args.i (omega (arith, c.if-i-switches.false, c.switches.ensures))

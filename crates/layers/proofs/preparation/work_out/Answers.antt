@@ -22,7 +22,7 @@ returns-then-is_none g c =
 
 pub loop-i-init : goal.loop-i-init
 loop-i-init g c =
-    turn_first g.S.Store.rollback_laws g.S.Store.need {n = c.switches-i-end.result} {R = c.in_ok-top.top} {s₁ = c.both.new.self} c.new-switches.ensures
+    turn_first g.S.Store.rollback_laws g.S.Store.need {n = c.switches-i-end.result} {R = c.in_ok-top.top} {s₁ = c.both.new.self} refl
 
 pub returns-in_err-x : goal.returns-in_err-x
 returns-in_err-x g c =
@@ -30,47 +30,47 @@ returns-in_err-x g c =
     let first = c.in_ok-top.ensures in
     let h = c.in_err-x.ensures in
     switch_refused s.rollback_laws s.need {s = c.args.store.now} {s₁ = c.both.new.self} {t = c.loop-i.store} {t₁ = c.switch.new.self}
-    {n = c.switches-i-end.result} {top = c.args.all} {a = c.args.a} {R = c.in_ok-top.top} {i = c.loop-i.i} {sw = c.loop-i.switches.items}
+    {n = c.switches-i-end.result} {top = c.args.all} {a = c.args.a} {R = c.in_ok-top.top} {i = c.loop-i.i} {sw = c.loop-i.switches}
     c.from_residual-in_err-x.ensures.1
     (begun_some s.rollback_laws s.need {s = c.args.store.now} {s₁ = c.both.new.self} {top = c.args.all} {a = c.args.a} {R = c.in_ok-top.top}
     c.in_ok-find.field-0 first c.if-is_none.ensures c.in_ok-find.ensures.1)
     c.switches-i-end.ensures c.loop-i.invariant c.loop-i-test.true h
 
-pub returns-in_err-both : goal.returns-in_err-both
-returns-in_err-both g c =
+pub returns-in_err-switches : goal.returns-in_err-switches
+returns-in_err-switches g c =
     let s = g.S.Store in
     let first = c.in_ok-top.ensures in
     let one = c.in_ok-x.ensures in
-    let h = c.in_err-both.ensures in
+    let h = c.in_err-switches.ensures in
     both_refused s.rollback_laws s.need {s = c.args.store.now} {s₁ = c.both.new.self} {t = c.loop-i.store} {t₁ = c.switch.new.self}
     {t₂ = c.both-in-loop-i.new.self} {n = c.switches-i-end.result} {top = c.args.all} {a = c.args.a} {R = c.in_ok-top.top} {i = c.loop-i.i}
-    {x = c.in_ok-x.x} {sw = c.loop-i.switches.items}
-    c.from_residual-in_err-both.ensures.1
+    {x = c.in_ok-x.x} {sw = c.loop-i.switches}
+    c.from_residual-in_err-switches.ensures.1
     (begun_some s.rollback_laws s.need {s = c.args.store.now} {s₁ = c.both.new.self} {top = c.args.all} {a = c.args.a} {R = c.in_ok-top.top}
     c.in_ok-find.field-0 first c.if-is_none.ensures c.in_ok-find.ensures.1)
     c.switches-i-end.ensures c.loop-i.invariant c.loop-i-test.true one h
 
 -- there are at most 24 switches
-pub push-requires : goal.push-requires
-push-requires g c =
-    omega (arith, c.loop-i.invariant.len, c.loop-i-test.true, c.switches-i-end.ensures, (g.S.Store.consistent c.both.new.self).few)
+pub bounds-switches-i : goal.bounds-switches-i
+bounds-switches-i g c =
+    omega (arith, c.loop-i-test.true, c.switches-i-end.ensures, (g.S.Store.consistent c.both.new.self).few)
 
 pub loop-i-preserved : goal.loop-i-preserved
 loop-i-preserved g c =
     let s = g.S.Store in
     let one = c.in_ok-x.ensures in
-    let two = c.in_ok-both.ensures in
+    let two = c.in_ok-switches.ensures in
     turn_more s.rollback_laws s.need {n = c.switches-i-end.result} {R = c.in_ok-top.top} {i = c.loop-i.i} {x = c.in_ok-x.x}
-    {y = c.in_ok-both.field-0} {s₁ = c.both.new.self} {t = c.loop-i.store} {t₁ = c.switch.new.self} {t₂ = c.both-in-loop-i.new.self}
-    {sw = c.loop-i.switches.items}
-    c.loop-i.invariant c.loop-i-test.true one two c.push.ensures.items
+    {y = c.in_ok-switches.field-0} {s₁ = c.both.new.self} {t = c.loop-i.store} {t₁ = c.switch.new.self} {t₂ = c.both-in-loop-i.new.self}
+    {sw = c.loop-i.switches}
+    c.loop-i.invariant c.loop-i-test.true (bounds-switches-i g c) one two
 
 pub returns : goal.returns
 returns g c =
     let s = g.S.Store in
     let first = c.in_ok-top.ensures in
     turn_last s.rollback_laws s.need {s = c.args.store.now} {s₁ = c.both.new.self} {t = c.loop-i.store} {n = c.switches-i-end.result}
-    {top = c.args.all} {a = c.args.a} {R = c.in_ok-top.top} {i = c.loop-i.i} {sw = c.loop-i.switches.items}
-    _ (begun_some s.rollback_laws s.need {s = c.args.store.now} {s₁ = c.both.new.self} {top = c.args.all} {a = c.args.a} {R = c.in_ok-top.top}
+    {top = c.args.all} {a = c.args.a} {R = c.in_ok-top.top} {i = c.loop-i.i} {fl = c.len-floor.result} {sw = c.loop-i.switches}
+    (begun_some s.rollback_laws s.need {s = c.args.store.now} {s₁ = c.both.new.self} {top = c.args.all} {a = c.args.a} {R = c.in_ok-top.top}
     c.in_ok-find.field-0 first c.if-is_none.ensures c.in_ok-find.ensures.1)
-    c.switches-i-end.ensures c.loop-i.invariant c.loop-i-test.false c.loop-i.auto.i-end refl c.len-floor.ensures refl
+    c.switches-i-end.ensures c.loop-i.invariant c.loop-i-test.false c.loop-i.auto.i-end c.len-floor.ensures
