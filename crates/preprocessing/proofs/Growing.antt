@@ -3,7 +3,7 @@
 use Rattle.std.proofs.Common.{◌≡◌, ℕ, ◌+◌, ◌<◌, ◌≤◌, Bool, true, false, cond, not, ◌&&◌, eqb, leb, List, [], ◌∷◌, ◌++◌, length, is_some, Some, Ok, Err, Option, Result, sym, refl, ap, ◌∙◌, subst, arith, length-append, eq-eqb, leb-false}
 use Rattle.std.specs.Str.{bytes_eq}
 use Rattle.text.specs.Tokens.{Bytes}
-use Rattle.names.specs.Names.{index_from}
+use Rattle.names.specs.Names.{index_from, fresh, distinct_from, distinct}
 use Rattle.sources.specs.Classified.{Opening, Line, plain, name, if, elif, endif, refuse}
 use Rattle.sources.specs.Faults.{of_conditionals}
 use Rattle.conditionals.specs.Shape.{Shape, has, shaped, furthered, ended, is_else}
@@ -20,6 +20,14 @@ accepted false f r a e = (refl, e)
 pub same_ok : {A F : Type 0} (a b : A) → ◌≡◌ {A = Result A F} (Ok a) (Ok b) → a ≡ b
 same_ok a b e = cc
 
+append_none : (l : List Bytes) → l ++ [] ≡ l
+append_none [] = refl
+append_none (y ∷ l) = ap (λ (z : List Bytes). y ∷ z) (append_none l)
+
+append_one : (a : List Bytes) (y : Bytes) (ns : List Bytes) → (a ++ y ∷ []) ++ ns ≡ a ++ y ∷ ns
+append_one [] y ns = refl
+append_one (z ∷ a) y ns = ap (λ (l : List Bytes). z ∷ l) (append_one a y ns)
+
 parts : (p q : Bool) → (p && q) ≡ true → (p ≡ true) × (q ≡ true)
 parts true q e = (refl, e)
 parts false q e = let z : ◌≡◌ {A = ℕ} 0 1 = cc in absurd (omega arith)
@@ -31,6 +39,14 @@ joins false q e f = e
 opposite : (b : Bool) → not b ≡ true → b ≡ false
 opposite true e = sym e
 opposite false e = refl
+
+-- a fresh name behind distinct ones
+pub distinct_more : (seen ns : List Bytes) (x : Bytes) → distinct_from seen ns ≡ true → fresh (seen ++ ns) x ≡ true → distinct_from seen (ns ++ x ∷ []) ≡ true
+distinct_more seen [] x d f = joins (fresh seen x) true (ap (λ (l : List Bytes). fresh l x) (sym (append_none seen)) ∙ f) refl
+distinct_more seen (y ∷ ns) x d f =
+    let h = parts (fresh seen y) (distinct_from (seen ++ y ∷ []) ns) d in
+    joins (fresh seen y) (distinct_from (seen ++ y ∷ []) (ns ++ x ∷ [])) h.0
+    (distinct_more (seen ++ y ∷ []) ns x h.1 (ap (λ (l : List Bytes). fresh l x) (append_one seen y ns) ∙ f))
 
 pub same_self : (x : Bytes) → bytes_eq x x ≡ true
 same_self [] = refl
@@ -56,6 +72,10 @@ pub data Entered (ns : List Bytes) : List Bytes → Type 0 where
 pub entered_few : (ns ns' : List Bytes) → Entered ns ns' → length ns ≤ 64 → length ns' ≤ 64
 entered_few ns ns' none_more h = h
 entered_few ns ns' (one_more x f l) h = omega (arith, length-append ns (x ∷ []))
+
+pub entered_distinct : (ns ns' : List Bytes) → Entered ns ns' → distinct ns ≡ true → distinct ns' ≡ true
+entered_distinct ns ns' none_more d = d
+entered_distinct ns ns' (one_more x f l) d = distinct_more [] ns x d (ap not f)
 
 -- the line x, accepted, enters its name if it is a `define`, and is as deep in chains as the preprocessor's state behind it
 pub record Accepted (s s' : Shape) (x : Line) (σ : State) : Type 0 where

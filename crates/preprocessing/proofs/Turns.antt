@@ -20,7 +20,7 @@ use Rattle.preprocessor.specs.declared.state.State as states
 use Rattle.preprocessor.proofs.Standing.{represents_more}
 use Rattle.preprocessing.specs.Lines.{Answer, rendered, Left, Going}
 use Rattle.preprocessing.specs.declared.Run.{Run}
-use Rattle.preprocessing.proofs.Growing.{no_ok, accepted, same_ok, Entered, none_more, one_more, entered_few, after_line, defined_there, room_for_if}
+use Rattle.preprocessing.proofs.Growing.{no_ok, accepted, same_ok, Entered, none_more, one_more, after_line, defined_there, room_for_if}
 use Rattle.preprocessing.proofs.Rendered.{line_read, line_refused, all_read}
 
 -- what an accepted line came from
@@ -66,26 +66,24 @@ joined_kept false l = refl
 
 module _ (p : SourceLine) (r r' : Run) (y : codes.Line) (t : Answer) (ps : List Placed) where
   -- a line that was read and, where it is kept (b), written
-  pub turn : (b : Bool) → LineRead p r.shape r'.shape y
+  pub turn : (b : Bool) → LineRead p r.shape r'.shape y → length (shape_of r'.shape).names ≤ 64
       → ((σ : State) (x : Line) → chains_of r.state ≡ σ.stack → shown y ≡ seen x → kept σ x ≡ cond b (raw_of x ∷ []) [])
-      → ((ns : List Bytes) (σ : State) (x : Line) → shown y ≡ seen x → Ready ns σ x → Represents ns r.state σ → Represents ns r'.state (step σ x))
+      → ((σ : State) (x : Line) → shown y ≡ seen x → Ready (shape_of r'.shape).names σ x → Represents (shape_of r'.shape).names r.state σ → Represents (shape_of r'.shape).names r'.state (step σ x))
       → vec_items r'.output ≡ vec_items r.output ++ cond b p.text.now []
       → Going t r (placed_of p ∷ ps) → Going t r' ps
-  turn b d keeps moves wrote g =
+  turn b d few keeps moves wrote g =
       let σ = g.state in
       let x = d.line in
       let s = shape_of r.shape in
       let s' = shape_of r'.shape in
       let moved = read_parts p.last p.number s (classified p.last p.in_comment p.number p.text.now) x s' d.is in
       let a = after_line p.number s s' x σ g.deep moved in
-      let few = entered_few s.names s'.names a.names g.few in
       let k : joined (kept σ x) ≡ cond b p.text.now [] =
       ap joined (keeps σ x g.stands.chains d.same) ∙ ap (λ (w : Bytes). joined (cond b (w ∷ []) [])) d.raw ∙ joined_kept b p.text.now in
       record {
         state = step σ x;
-        stands = moves s'.names σ x d.same (ready p.number s s' σ x few g.deep d.proper moved) (entered s.names s'.names r.state σ a.names g.stands);
+        stands = moves σ x d.same (ready p.number s s' σ x few g.deep d.proper moved) (entered s.names s'.names r.state σ a.names g.stands);
         deep = a.deep;
-        few = few;
         left = subst (λ (w : Bytes). Left t w (rendered ps s' (step σ x))) (ap (λ (w : Bytes). vec_items r.output ++ w) k ∙ sym wrote)
             (line_read t (vec_items r.output) (placed_of p) ps s s' σ x d.is g.left);
       }

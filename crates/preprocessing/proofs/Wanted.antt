@@ -94,14 +94,13 @@ module _ (ns : List Bytes) (k : ℕ) (t : Bytes) where
   starts s h e = let g : ◌≡◌ {A = Option Shape} (Some (shape_of s)) (Some (begun ns)) = e ∙ ap (λ (b : Bool). cond b (Some (begun ns)) None) (le-leb (length ns) 64 (omega (arith, h))) in cc
 
   -- the standing before the first line
-  pub first : (r : Run) → vec_items r.output ≡ [] → length ns ≤ 24 → wanted ns k t ≡ whole → shape_of r.shape ≡ begun ns → Represents ns r.state (began (defined_in ns k))
+  pub first : (r : Run) → vec_items r.output ≡ [] → wanted ns k t ≡ whole → shape_of r.shape ≡ begun ns → Represents ns r.state (began (defined_in ns k))
       → Going (wanted ns k t) r (placed false 1 (lines t))
-  first r o h w e q =
+  first r o w e q =
       record {
         state = began (defined_in ns k);
         stands = subst (λ (x : Shape). Represents x.names r.state (began (defined_in ns k))) (sym e) q;
         deep = ap (λ (x : Shape). length x.chains) e;
-        few = subst (λ (x : Shape). length x.names ≤ 64) (sym e) (omega (arith, h));
         left = w ∙ nothing_before whole ∙ ap₂ (λ (x : Shape) (bs : Bytes). changed (λ more. bs ++ more) (rendered (placed false 1 (lines t)) x (began (defined_in ns k)))) (sym e) (sym o);
       }
 

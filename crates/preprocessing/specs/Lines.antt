@@ -6,7 +6,7 @@
 --                         definition
 --   LineWritten p r r' z  the line p leads from one such run to the next; or it is refused, and then the whole is refused so
 --   Writes text r r' z    from a run before the first line on, the run behind the last one holds the whole output
-use Rattle.std.specs.Prelude.{◌≡◌, ◌≤◌, false, List, [], ◌∷◌, ◌++◌, length, Ok, Err, vec_items, Result}
+use Rattle.std.specs.Prelude.{◌≡◌, false, List, [], ◌∷◌, ◌++◌, length, Ok, Err, vec_items, Result}
 use Rattle.faults.specs.declared.Refusal.{Refusal}
 use Rattle.text.specs.Tokens.{Bytes}
 use Rattle.sources.specs.Lines.{lines, joined}
@@ -42,7 +42,6 @@ pub record Going (t : Answer) (r : Run) (ps : List Placed) : Type 0 where
   pub state : State
   pub stands : Represents (shape_of r.shape).names r.state state
   pub deep : length (shape_of r.shape).chains ≡ length state.stack
-  pub few : length (shape_of r.shape).names ≤ 64
   pub left : Left t (vec_items r.output) (rendered ps (shape_of r.shape) state)
 
 abbrev pub LineWritten : SourceLine → Run → Run → Result (Unit {0}) PreprocessingFault → Type 0

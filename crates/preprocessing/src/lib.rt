@@ -24,7 +24,7 @@ use stores::MAX_SWITCHES;
 struct Run<'a> {
     output: Vec<u8>,
     shape: Shape<'a>,
-    state: State<'a>,
+    state: State,
 }
 
 impl<'a> Run<'a> {
@@ -36,7 +36,7 @@ impl<'a> Run<'a> {
         if self.state.keeps(&read) {
             self.output.extend_from_slice(line.text)?;
         }
-        self.state.step(&read);
+        self.state.step(&read, self.shape.names());
         Ok(())
     }
 
@@ -74,7 +74,7 @@ pub fn preprocess<'a>(
     let mut run = Run {
         output: Vec::new(heap),
         shape,
-        state: State::new(names, configuration),
+        state: State::new(names.len(), configuration),
     };
     run.write_lines(source)?;
     Ok(run.output)

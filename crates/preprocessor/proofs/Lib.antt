@@ -1,2 +1,2 @@
-pub mod Names
+pub mod Flags
 pub mod Standing

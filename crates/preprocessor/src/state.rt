@@ -1,9 +1,11 @@
 // What one configuration has read so far.
 use arrayvec::ArrayVec;
-use conditionals::{MAX_CHAINS, MAX_NAMES};
 
 mod chain;
 mod steps;
+
+// So many names have an entry at most, and so many chains are open.
+pub use conditionals::{MAX_CHAINS, MAX_NAMES};
 
 // An open chain of conditionals: is its outside active, was a block taken, is this block active?
 #[derive(Clone, Copy, Default)]
@@ -13,9 +15,9 @@ pub struct Frame {
     active: bool,
 }
 
-// The names that are defined, each of them once, and the open chains, innermost last.
+// Which of the names with an entry are defined, and the open chains, innermost last.
 #[derive(Drop)]
-pub struct State<'a> {
-    defined: ArrayVec<&'a [u8], MAX_NAMES>,
+pub struct State {
+    flags: [bool; MAX_NAMES],
     chains: ArrayVec<Frame, MAX_CHAINS>,
 }

@@ -1,14 +1,19 @@
--- Which names are defined, and the truth value of one step. Assumes nothing.
---   env_of ds y   is y one of the defined names?
---   one i D a b   what the step i leaves, of the values a and b of its operands; `!` has a alone
-use Rattle.std.specs.Prelude.{Bool, true, false, not, ◌&&◌, ◌||◌, List, is_some}
+-- Which of the names with an entry are defined, and the truth value of one step. Assumes nothing.
+--   flag_of o fs   the flag at the place o; false where there is none
+--   env_of ns fs y   is y defined, where the flags tell it of the names in their order? A name without an entry is not
+--   one i D a b    what the step i leaves, of the values a and b of its operands; `!` has a alone
+use Rattle.std.specs.Prelude.{ℕ, Bool, true, false, not, ◌&&◌, ◌||◌, List, Some, None, Option, slice_index_or}
 use Rattle.text.specs.Tokens.{Bytes}
 use Rattle.names.specs.Names.{index_of}
 use Rattle.expressions.specs.Conditions.{Item, false-item, true-item, not-item, and_item, or-item, name_item}
 use Rattle.expressions.specs.Truth.{Env}
 
-abbrev pub env_of : List Bytes → Env
-env_of ds y = is_some (index_of ds y)
+abbrev pub flag_of : Option ℕ → List Bool → Bool
+flag_of None fs = false
+flag_of (Some i) fs = slice_index_or fs i false
+
+abbrev pub env_of : List Bytes → List Bool → Env
+env_of ns fs y = flag_of (index_of ns y) fs
 
 abbrev pub one : Item → Env → Bool → Bool → Bool
 one false-item D a b = false

@@ -1,5 +1,6 @@
-// The truth value of a condition, where some names are defined. May use `text`, `names`, `expressions`, `sources` and `stack_machine`.
-// Promises: the value of the expression whose steps the condition has.
+// The truth value of a condition, where flags tell which names are defined. May use `text`, `names`, `expressions`, `sources` and
+// `stack_machine`.
+// Promises: the value of the expression whose steps the condition has; a name without an entry is not defined.
 #![tactic(auto)]
 
 ghost use Rattle.std.specs.Prelude.{◌≡◌, ⊤, Ok};
@@ -15,17 +16,21 @@ use names::index_of;
 use stack_machine::{Interpretation, Stack, work_out};
 use std::convert::Infallible;
 
-// Is `name` one of the defined names?
-pub fn is_defined(name: &[u8], defined: &[&[u8]]) -> bool
-    ensures { result ≡ env_of (texts defined.now) name.now }
+// Is `name` defined? `flags` tell it of `names`, in their order.
+pub fn is_defined(name: &[u8], names: &[&[u8]], flags: &[bool]) -> bool
+    ensures { result ≡ env_of (texts names.now) flags.now name.now }
 {
-    index_of(defined, name).is_some()
+    match index_of(names, name) {
+        Some(i) => i < flags.len() && flags[i],
+        None => false,
+    }
 }
 
-// The names that are defined.
+// The names with an entry, and the flags that tell which of them are defined.
 #[derive(Clone, Copy)]
 struct Defined<'a> {
     names: &'a [&'a [u8]],
+    flags: &'a [bool],
 }
 
 // The values of the steps, none of which is refused.
@@ -34,7 +39,7 @@ impl Interpretation<()> for Defined<'_> {
 
     type Error = Infallible;
 
-    ghost gives = { λ by i a b s r t. r ≡ Ok (one i (env_of (texts by.names.now)) a b) };
+    ghost gives = { λ by i a b s r t. r ≡ Ok (one i (env_of (texts by.names.now) by.flags.now) a b) };
 
     ghost goes = { λ s t. ⊤ };
 
@@ -42,7 +47,7 @@ impl Interpretation<()> for Defined<'_> {
         Ok(match step {
             Step::Never => false,
             Step::Always => true,
-            Step::Defined(name) => is_defined(name, self.names),
+            Step::Defined(name) => is_defined(name, self.names, self.flags),
             Step::Not => !a,
             Step::And => a && b,
             Step::Or => a || b,
@@ -54,11 +59,11 @@ impl Interpretation<()> for Defined<'_> {
     ghost goes_on = { λ s t u p q. tt };
 }
 
-// Does the condition hold, where just these names are defined?
-pub fn holds(condition: &Condition<'_>, defined: &[&[u8]]) -> bool
-    ensures { (e : Expr) → steps_of condition.now ≡ postfix e → result ≡ value_of_lem e (env_of (texts defined.now)) }
+// Does the condition hold, where `flags` tell which of `names` are defined?
+pub fn holds(condition: &Condition<'_>, names: &[&[u8]], flags: &[bool]) -> bool
+    ensures { (e : Expr) → steps_of condition.now ≡ postfix e → result ≡ value_of_lem e (env_of (texts names.now) flags.now) }
 {
-    let by = Defined { names: defined };
+    let by = Defined { names, flags };
     match work_out(&by, condition, Stack::new(), &mut ()) {
         Ok(value) => value,
         Err(refusal) => match refusal {},

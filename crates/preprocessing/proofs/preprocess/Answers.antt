@@ -44,9 +44,9 @@ begins c =
     let ns = texts c.args.names.now in
     let few = few_names c.args.names.now c.args.configuration c.if-names-gt-MAX_SWITCHES.false in
     let low = low_number c.args.names.now c.args.configuration c.if-names-gt-MAX_SWITCHES.false c.if-configuration-names.false in
-    first ns c.args.configuration c.args.source.now _ c.new-2.ensures.items few
+    first ns c.args.configuration c.args.source.now _ c.new-2.ensures.items
     (sized ns c.args.configuration c.args.source.now c.check_size.result c.in_ok-check_size.field-0 few c.if-not-all_distinct.ensures low c.check_size.ensures c.in_ok-check_size.was)
-    (starts ns c.args.configuration c.args.source.now c.in_ok-shape.shape few (sym (ap start_of c.in_ok-shape.ensures.ok_part) ∙ c.new.ensures)) c.new-3.ensures
+    (starts ns c.args.configuration c.args.source.now c.in_ok-shape.shape few (sym (ap start_of c.in_ok-shape.ensures.ok_part) ∙ c.new.ensures)) (c.new-3.ensures ns (length_texts c.args.names.now))
 
 pub returns-in_err-write_lines : goal.returns-in_err-write_lines
 returns-in_err-write_lines c =

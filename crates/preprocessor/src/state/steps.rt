@@ -1,47 +1,32 @@
 // The state before the first line, and what a line does to it.
-ghost use Rattle.std.specs.Prelude.{◌≡◌, ◌<◌, List, [], ◌∷◌, length, if◌then◌else◌, false};
+ghost use Rattle.std.specs.Prelude.{◌≡◌, ◌<◌, List, [], ◌∷◌, length, if◌then◌else◌};
 ghost use Rattle.text.specs.Tokens.{Bytes};
-ghost use Rattle.names.specs.Names.{texts};
-ghost use Rattle.stores.specs.Sets.{on};
-ghost use Rattle.expressions.specs.Grammar.{Expr};
-ghost use Rattle.expressions.specs.Conditions.{postfix};
-ghost use Rattle.expressions.specs.Truth.{truth as truth_of};
+ghost use Rattle.names.specs.Names.{texts, index_of};
 ghost use Rattle.sources.specs.Classified.{Line as Defined, raw_of};
-ghost use Rattle.sources.specs.Answers.{steps_of, shown, seen};
-ghost use Rattle.truth.specs.Worked.{env_of};
+ghost use Rattle.sources.specs.Answers.{shown, seen};
 ghost use Rattle.preprocessor.specs.Plain.{State as PlainState, active as active_in, step as stepped, popped, kept, defined_in, began};
-ghost use Rattle.preprocessor.specs.Represented.{chains_of, Represents, Ready, with_name, without_name, entered, continued};
+ghost use Rattle.preprocessor.specs.Represented.{chains_of, Represents, Ready, marked, entered, continued};
 
-use crate::state::{Frame, State};
+use crate::state::{Frame, MAX_NAMES, State};
 use arrayvec::ArrayVec;
-use expressions::condition::Condition;
 use names::index_of;
 use sources::line::Line;
-use truth::{holds, is_defined};
+use truth::holds;
 
 // A configuration is a number of so many bits, one for each switch.
 const CONFIGURATION_BITS: usize = 32;
 
-// Is switch `i` on?
-fn is_on(configuration: u32, i: usize) -> bool
-    ensures { result ≡ on i configuration }
-{
-    i < CONFIGURATION_BITS && (configuration >> i) % 2 == 1
-}
-
-impl<'a> State<'a> {
-    // Before the first line: the switches that are on in `configuration` are defined. Of two with one name the first counts.
-    pub fn new(switches: &[&'a [u8]], configuration: u32) -> State<'a>
-        ensures { Represents (texts switches.now) result (began (defined_in (texts switches.now) configuration)) }
+impl State {
+    // Before the first line: the switches that are on in `configuration` are defined. Bit i of the number is switch i.
+    pub fn new(switches: usize, configuration: u32) -> State
+        ensures { (ns : List Bytes) → length ns ≡ switches → Represents ns result (began (defined_in ns configuration)) }
     {
-        let mut defined = ArrayVec::new();
-        for (i, name) in switches.iter().enumerate() {
-            if is_on(configuration, i) && index_of(&switches[..i], name).is_none() {
-                defined.push(*name);
-            }
+        let mut flags = [false; MAX_NAMES];
+        for i in 0..switches.min(CONFIGURATION_BITS) {
+            flags[i] = (configuration >> i) % 2 == 1;
         }
         State {
-            defined,
+            flags,
             chains: ArrayVec::new(),
         }
     }
@@ -63,30 +48,24 @@ impl<'a> State<'a> {
         }
     }
 
-    // `define` of `name`, which acts only where active. Where there is no room, nothing changes.
-    fn define(&mut self, name: &'a [u8])
-        ensures names { (env_of (texts self.old.defined.items) name.now ≡ false → length self.old.defined.items < 64)
-            → texts self.new.defined.items ≡ with_name (active_in (chains_of self.old)) name.now (texts self.old.defined.items) }
+    // `define` or `undef` of `name`, which acts only where active. Without an entry there is nothing to note.
+    fn define(&mut self, names: &[&[u8]], name: &[u8], value: bool)
+        ensures flags { self.new.flags ≡ (if active_in (chains_of self.old) then marked (index_of (texts names.now) name.now) value self.old.flags else self.old.flags) }
         ensures chains { chains_of self.new ≡ chains_of self.old }
     {
-        if self.is_active() && !is_defined(name, &self.defined) {
-            let _ = self.defined.try_push(name);
+        if !self.is_active() {
+            return;
         }
-    }
-
-    // `undef` of `name`, which acts only where active.
-    fn undefine(&mut self, name: &[u8])
-        ensures names { texts self.new.defined.items ≡ without_name (active_in (chains_of self.old)) name.now (texts self.old.defined.items) }
-        ensures chains { chains_of self.new ≡ chains_of self.old }
-    {
-        if self.is_active() {
-            self.defined.retain(|known| *known != name);
+        if let Some(i) = index_of(names, name) {
+            if i < MAX_NAMES {
+                self.flags[i] = value;
+            }
         }
     }
 
     // A chain opens with a block whose condition has the value `holds`. Where there is no room, nothing changes.
     fn enter(&mut self, holds: bool)
-        ensures names { self.new.defined ≡ self.old.defined }
+        ensures flags { self.new.flags ≡ self.old.flags }
         ensures chains { length self.old.chains.items < 32 → chains_of self.new ≡ entered holds (chains_of self.old) }
     {
         let chain = Frame::new(self.is_active(), holds);
@@ -95,7 +74,7 @@ impl<'a> State<'a> {
 
     // The next block of the innermost chain, which asks what has the value `holds`. Outside a chain nothing changes.
     fn proceed(&mut self, holds: bool)
-        ensures names { self.new.defined ≡ self.old.defined }
+        ensures flags { self.new.flags ≡ self.old.flags }
         ensures chains { chains_of self.new ≡ continued holds (chains_of self.old) }
     {
         if let Some(chain) = self.chains.last_mut() {
@@ -105,32 +84,26 @@ impl<'a> State<'a> {
 
     // The innermost chain ends.
     fn leave(&mut self)
-        ensures names { self.new.defined ≡ self.old.defined }
+        ensures flags { self.new.flags ≡ self.old.flags }
         ensures chains { chains_of self.new ≡ popped (chains_of self.old) }
     {
         let _ = self.chains.pop();
     }
 
-    fn holds(&self, condition: &Condition<'_>) -> bool
-        ensures { (e : Expr) → steps_of condition.now ≡ postfix e → result ≡ truth_of e (env_of (texts self.now.defined.items)) }
-    {
-        holds(condition, &self.defined)
-    }
-
-    // What `line` does.
-    pub fn step(&mut self, line: &Line<'a>)
-        ensures { (ns : List Bytes) (σ : PlainState) (x : Defined) → shown line.now ≡ seen x → Ready ns σ x → Represents ns self.old σ → Represents ns self.new (stepped σ x) }
+    // What `line` does, where `names` are the names that have an entry behind it.
+    pub fn step(&mut self, line: &Line<'_>, names: &[&[u8]])
+        ensures { (σ : PlainState) (x : Defined) → shown line.now ≡ seen x → Ready (texts names.now) σ x → Represents (texts names.now) self.old σ → Represents (texts names.now) self.new (stepped σ x) }
     {
         match line {
             Line::Plain => {}
-            Line::Define(name) => self.define(name),
-            Line::Undef(name) => self.undefine(name),
+            Line::Define(name) => self.define(names, name, true),
+            Line::Undef(name) => self.define(names, name, false),
             Line::If(condition) => {
-                let value = self.holds(condition);
+                let value = holds(condition, names, &self.flags);
                 self.enter(value);
             }
             Line::Elif(condition) => {
-                let value = self.holds(condition);
+                let value = holds(condition, names, &self.flags);
                 self.proceed(value);
             }
             Line::Else => self.proceed(true),

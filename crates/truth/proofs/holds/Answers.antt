@@ -7,4 +7,4 @@ use Rattle.truth.proofs.holds.Goals as goal
 pub returns : goal.returns
 returns c e k =
     let w = c.in-Ok.ensures.works e k in
-    let t = works_truth (env_of (texts c.args.defined.now)) w.0 e Answers _ _ _ w.1 in cc (t.0)
+    let t = works_truth (env_of (texts c.args.names.now) c.args.flags.now) w.0 e Answers _ _ _ w.1 in cc (t.0)

@@ -1,16 +1,24 @@
+use Rattle.std.proofs.Common.{arith}
+use Rattle.names.specs.Names.{texts}
 use Rattle.preprocessor.proofs.Standing.{stands, stands_if, stands_elif}
 use Rattle.preprocessor.proofs.state.State.step.Goals as goal
 
 pub returns-in-Define : goal.returns-in-Define
-returns-in-Define c = stands c.args.self.now c.define.new.self c.args.line.now _ c.in-Define.is (c.define.ensures.names, c.define.ensures.chains)
+returns-in-Define c =
+    let d = c.define in
+    stands (texts c.args.names.now) c.args.self.now d.new.self c.args.line.now _ c.in-Define.is (omega arith) (d.ensures.flags, d.ensures.chains)
 
 pub returns-in-Undef : goal.returns-in-Undef
-returns-in-Undef c = stands c.args.self.now c.undefine.new.self c.args.line.now _ c.in-Undef.is (c.undefine.ensures.names, c.undefine.ensures.chains)
+returns-in-Undef c =
+    let d = c.define-in-Undef in
+    stands (texts c.args.names.now) c.args.self.now d.new.self c.args.line.now _ c.in-Undef.is (omega arith) (d.ensures.flags, d.ensures.chains)
 
 pub returns-in-If : goal.returns-in-If
 returns-in-If c =
-    stands_if c.args.self.now c.enter.new.self c.args.line.now c.in-If.condition c.holds-value.result c.enter.ensures.names c.holds-value.ensures c.in-If.is c.enter.ensures.chains
+    let d = c.enter in
+    stands_if (texts c.args.names.now) c.args.self.now d.new.self c.args.line.now c.in-If.condition c.holds-value.result (omega arith) d.ensures.flags c.holds-value.ensures c.in-If.is d.ensures.chains
 
 pub returns-in-Elif : goal.returns-in-Elif
 returns-in-Elif c =
-    stands_elif c.args.self.now c.proceed.new.self c.args.line.now c.in-Elif.condition c.holds-value-in-Elif.result c.proceed.ensures.names c.holds-value-in-Elif.ensures c.in-Elif.is c.proceed.ensures.chains
+    let d = c.proceed in
+    stands_elif (texts c.args.names.now) c.args.self.now d.new.self c.args.line.now c.in-Elif.condition c.holds-value-in-Elif.result (omega arith) d.ensures.flags c.holds-value-in-Elif.ensures c.in-Elif.is d.ensures.chains
