@@ -1,6 +1,6 @@
 -- What was read of a line: its length first, then its tokens.
-use Rattle.std.proofs.Common.{◌≡◌, ℕ, ◌<◌, ◌≤◌, Bool, true, false, cond, ltb, length, Ok, Err, Result, sym, refl, subst, ⊎_elim, ltb-false, ltb-true}
-use Rattle.std.proofs.lemmas.Bool.{cases_Bool}
+use Rattle.std.proofs.Common.{◌≡◌, ℕ, ◌<◌, ◌≤◌, Bool, true, false, cond, ltb, length, IfOk, Ok, Err, Result, sym, refl, subst, ⊎_elim, ltb-false, ltb-true}
+use Rattle.std.proofs.lemmas.Bool.{cases_Bool, cases_lt}
 use Rattle.text.specs.Tokens.{Bytes}
 use Rattle.expressions.specs.Grammar.{Expr}
 use Rattle.expressions.specs.Conditions.{postfix}
@@ -23,11 +23,24 @@ module _ (line : Bytes) (n : ℕ) where
       (λ (e : ltb 255 (length line) ≡ false). subst (λ (b : Bool). Agrees R (cond b (Err (described (LineTooLong n))) (on_line n z)) r) (sym e) (short (ltb-false 255 (length line) e)))
       (cases_Bool (ltb 255 (length line)))
 
-  condition_short : (z : Result Expr (ℕ × ℕ)) (r : Result Condition ExpressionFault) → Answered n z r → Tests (on_line n z) r
-  condition_short (Ok e) (Ok k) h = h
+  condition_short : (z : Result Expr (ℕ × ℕ)) (r : Result Condition ExpressionFault) → Answered line n z r → Tests (on_line n z) r
+  condition_short (Ok e) (Ok k) h = h.1
   condition_short (Ok e) (Err f) h = absurd h
   condition_short (Err g) (Ok k) h = absurd h
   condition_short (Err g) (Err f) h = h
 
-  pub condition_read : (z : Result Expr (ℕ × ℕ)) (r : Result Condition ExpressionFault) → (255 < length line → r ≡ Err (LineTooLong n)) → (length line ≤ 255 → Answered n z r) → Tests (read_in line n z) r
+  pub condition_read : (z : Result Expr (ℕ × ℕ)) (r : Result Condition ExpressionFault) → (255 < length line → r ≡ Err (LineTooLong n)) → (length line ≤ 255 → Answered line n z r) → Tests (read_in line n z) r
   condition_read z r long short = by_length (λ e k. steps_of k ≡ postfix e) z r long (λ h. condition_short z r (short h))
+
+  line_short : (z : Result Expr (ℕ × ℕ)) (r : Result Condition ExpressionFault) → Answered line n z r → IfOk r (λ k. k.line.now ≡ line)
+  line_short (Ok e) (Ok k) h = h.0
+  line_short (Ok e) (Err f) h = tt
+  line_short (Err g) (Ok k) h = absurd h
+  line_short (Err g) (Err f) h = tt
+
+  -- a condition is over the line that was read
+  pub line_read : (z : Result Expr (ℕ × ℕ)) (r : Result Condition ExpressionFault) → (255 < length line → r ≡ Err (LineTooLong n)) → (length line ≤ 255 → Answered line n z r) → IfOk r (λ k. k.line.now ≡ line)
+  line_read z r long short = ⊎_elim
+      (λ (h : 255 < length line). subst (λ (x : Result Condition ExpressionFault). IfOk x (λ k. k.line.now ≡ line)) (sym (long h)) tt)
+      (λ (h : length line ≤ 255). line_short z r (short h))
+      (cases_lt 255 (length line))

@@ -2,7 +2,7 @@
 // Promises: of every line the directive with its condition or name, or that it is plain, or the refusal with its number and place.
 #![tactic(auto)]
 
-ghost use Rattle.std.specs.Prelude.{◌≡◌, true, cond, ◌&&◌, ◌||◌, [], ◌∷◌, if◌then◌else◌, None};
+ghost use Rattle.std.specs.Prelude.{◌≡◌, true, cond, ◌&&◌, ◌||◌, [], ◌∷◌, if◌then◌else◌, None, IfOk};
 ghost use Rattle.expressions.specs.Conditions.{name_item, not-item};
 ghost use Rattle.expressions.specs.Placed.{read_in};
 ghost use Rattle.scanning.specs.Modes.{open_after};
@@ -71,31 +71,33 @@ fn check_line(line: &SourceLine<'_>, conditional: bool) -> Result<(), LineFault>
     }
 }
 
-// That the name is defined, or that it is not.
-fn name_condition(name: &[u8], negated: bool) -> Condition<'_>
-    ensures { steps_of result ≡ name_item name.now ∷ (if negated then not-item ∷ [] else []) }
+// That the name, which stands in the line, is defined, or that it is not.
+fn name_condition<'a>(line: &'a [u8], name: &'a [u8], negated: bool) -> Condition<'a>
+    ensures steps { steps_of result ≡ name_item name.now ∷ (if negated then not-item ∷ [] else []) }
+    ensures line { result.line.now ≡ line.now }
 {
     let mut steps = ArrayVec::new();
     steps.push(Step::Defined(name));
     if negated {
         steps.push(Step::Not);
     }
-    Condition { steps }
+    Condition { line, steps }
 }
 
 // The condition that stands there, in that form.
 fn condition_of<'a>(form: Form, operand: Operand<'a>) -> Result<Condition<'a>, ExpressionFault>
     requires { operand.comments ≡ true }
-    ensures { Tests (read_in operand.entry.line.now operand.entry.number (condition_of form operand.entry.line.now operand.entry.from)) result }
+    ensures steps { Tests (read_in operand.entry.line.now operand.entry.number (condition_of form operand.entry.line.now operand.entry.from)) result }
+    ensures line { IfOk result (λ k. k.line.now ≡ operand.entry.line.now) }
 {
     match form {
         Form::Expression => condition(operand),
         Form::Defined => operand
             .only_name()
-            .map(|name| name_condition(name.text, false)),
+            .map(|name| name_condition(operand.line, name.text, false)),
         Form::Undefined => operand
             .only_name()
-            .map(|name| name_condition(name.text, true)),
+            .map(|name| name_condition(operand.line, name.text, true)),
     }
 }
 

@@ -1,3 +1,4 @@
 pub mod Joins
 pub mod Terms
 pub mod Laws
+pub mod Cuts

@@ -1,6 +1,6 @@
 -- What the functions that read a line answer. Assumes nothing.
---   Answered n z r           the answer r is what the definition's z says: a condition with the steps of the expression, or the fault with the number,
---                            the line's number n, and the byte
+--   Answered line n z r      the answer r is what the definition's z says: a condition over this line with the steps of the expression, or the fault with
+--                            the number, this line's number n, and the byte
 --   Named line ps n z r      the same of a name; it stands at the first of the tokens ps
 --   Empty n z r              the same where nothing may stand
 --   RefusedAt ps z m b       of the tokens ps those in front can go on to an expression, the next or their end cannot; m is the number that what is due
@@ -16,11 +16,11 @@ use Rattle.expressions.specs.Faults.{refused, described}
 use Rattle.expressions.specs.declared.condition.Condition.{Condition}
 use Rattle.expressions.specs.declared.fault.ExpressionFault.{ExpressionFault}
 
-abbrev pub Answered : ℕ → Result Expr (ℕ × ℕ) → Result Condition ExpressionFault → Type 0
-Answered n (Ok e) (Ok k) = items k.steps.items ≡ postfix e
-Answered n (Ok e) (Err f) = ⊥
-Answered n (Err g) (Ok k) = ⊥
-Answered n (Err g) (Err f) = described f ≡ refused g.0 n g.1
+abbrev pub Answered : Bytes → ℕ → Result Expr (ℕ × ℕ) → Result Condition ExpressionFault → Type 0
+Answered line n (Ok e) (Ok k) = (k.line.now ≡ line) × (items k.steps.items ≡ postfix e)
+Answered line n (Ok e) (Err f) = ⊥
+Answered line n (Err g) (Ok k) = ⊥
+Answered line n (Err g) (Err f) = described f ≡ refused g.0 n g.1
 
 abbrev pub Named : Bytes → List Placed → ℕ → Result Bytes (ℕ × ℕ) → Result Part ExpressionFault → Type 0
 Named line ps n (Ok x) (Ok part) = (part.text.now ≡ x) × (part.at ≡ place_or (suc (length line)) ps)

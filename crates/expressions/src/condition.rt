@@ -1,5 +1,5 @@
 // A condition as the steps by which it is worked out.
-ghost use Rattle.std.specs.Prelude.{◌≡◌, ◌≤◌, length};
+ghost use Rattle.std.specs.Prelude.{◌≡◌, ◌-◌, ◌≤◌, length, take, drop};
 
 use arrayvec::ArrayVec;
 
@@ -18,8 +18,10 @@ pub enum Step<'a> {
     Or,
 }
 
+// The steps, over the line that they were read from.
 #[derive(Drop)]
 pub struct Condition<'a> {
+    pub line: &'a [u8],
     pub steps: ArrayVec<Step<'a>, MAX_LINE>,
 }
 
@@ -30,4 +32,19 @@ impl<'a> Condition<'a> {
     {
         self.steps.as_slice()
     }
+
+    pub fn line(&self) -> &'a [u8]
+        ensures { result.now ≡ self.now.line.now }
+    {
+        self.line
+    }
+}
+
+// The bytes of a name: `len` of them from the place `at` of its line on, or as many as there are.
+pub fn name_at(line: &[u8], at: usize, len: usize) -> &[u8]
+    ensures { result.now ≡ take len (drop (at - 1) line.now) }
+{
+    let start = at.saturating_sub(1).min(line.len());
+    let end = start + len.min(line.len() - start);
+    &line[start..end]
 }

@@ -94,11 +94,11 @@ module _ (l : Bytes) (ts : List Placed) (n : ℕ) (p q : Parser) (tokens : ahead
   parsed_is : parsed (kinds (ahead p)) ≡ parsed (kinds ts)
   parsed_is = ap (λ (ps : List Placed). parsed (kinds ps)) tokens
 
-  module _ (k : Condition) (steps : items k.steps.items ≡ written q) (o : Completed p q (Ok tt) (parsed (kinds (ahead p)))) where
-    pub answered : Answered n (located (suc (length l)) ts (parsed (kinds ts))) (Ok k)
+  module _ (k : Condition) (steps : items k.steps.items ≡ written q) (line : k.line.now ≡ l) (o : Completed p q (Ok tt) (parsed (kinds (ahead p)))) where
+    pub answered : Answered l n (located (suc (length l)) ts (parsed (kinds ts))) (Ok k)
     answered =
         let d = done (parsed (kinds (ahead p))) o in
-        subst (λ (z : Result Expr (ℕ × List Tok)). Answered n (located (suc (length l)) ts z) (Ok k)) (sym (sym parsed_is ∙ d.1)) (steps ∙ d.2)
+        subst (λ (z : Result Expr (ℕ × List Tok)). Answered l n (located (suc (length l)) ts z) (Ok k)) (sym (sym parsed_is ∙ d.1)) (line, steps ∙ d.2)
 
     pub conforms : Conforms l ts (Ok k)
     conforms =
@@ -125,13 +125,13 @@ module _ (l : Bytes) (ts : List Placed) (n : ℕ) (p q : Parser) (tokens : ahead
         at-token.3.fault
         ∙ ap₂ (λ (m : ℕ) (b : Bytes). refused at-token.0 m (place_or (suc (length b)) at-token.3.behind)) num same
 
-    pub refused_answer : Answered n (located (suc (length l)) ts (parsed (kinds ts))) (Err f)
+    pub refused_answer : Answered l n (located (suc (length l)) ts (parsed (kinds ts))) (Err f)
     refused_answer =
         let from = at-token.3.behind in
         let few : length ts - length (kinds from) ≡ length (at-token.3.past ++ from) - length from = omega (arith, ap length split, length_kinds from) in
         let e : drop (length ts - length (kinds from)) ts ≡ from =
         ap₂ (λ (m : ℕ) (ps : List Placed). drop m ps) few split ∙ tail_is at-token.3.past from in
-        subst (λ (z : Result Expr (ℕ × List Tok)). Answered n (located (suc (length l)) ts z) (Err f)) (sym parse)
+        subst (λ (z : Result Expr (ℕ × List Tok)). Answered l n (located (suc (length l)) ts z) (Err f)) (sym parse)
         (fault ∙ ap (λ (ps : List Placed). refused at-token.0 n (place_or (suc (length l)) ps)) (sym e))
 
     pub refused_place : Conforms l ts (Err f)

@@ -19,7 +19,7 @@ use expressions::operand::Operand;
 // The condition that stands there, where comments may be known. The line comes without its line feed; faults name it by its number.
 pub fn condition<'a>(operand: Operand<'a>) -> Result<Condition<'a>, ExpressionFault>
     ensures long { RefusesLong operand.entry result }
-    ensures reads { let o = operand.entry in Short o → Answered o.number (condition_at o.comments o.line.now o.from) result }
+    ensures reads { let o = operand.entry in Short o → Answered o.line.now o.number (condition_at o.comments o.line.now o.from) result }
     ensures grammar { let o = operand.entry in Short o → Conforms o.line.now (tokens_in o) result }
     ensures exact { Exact }
     ensures one { OneOnly }
@@ -30,6 +30,7 @@ pub fn condition<'a>(operand: Operand<'a>) -> Result<Condition<'a>, ExpressionFa
     let mut parser = Parser::new(operand)?;
     parser.complete()?;
     Ok(Condition {
+        line: operand.line,
         steps: parser.steps,
     })
 }

@@ -24,11 +24,11 @@ module _ (line : Bytes) (l : ℕ) where
   ReadCondition (Ok k) z = (e : Expr) × (z ≡ Ok e) × (items k.steps.items ≡ postfix e)
   ReadCondition (Err f) z = z ≡ Err (described f)
 
-  condition_short : (z : Result Expr (ℕ × ℕ)) (r : Result Condition ExpressionFault) → Answered l z r → ReadCondition r (on_line l z)
-  condition_short (Ok e) (Ok k) h = (e, refl, h)
+  condition_short : (z : Result Expr (ℕ × ℕ)) (r : Result Condition ExpressionFault) → Answered line l z r → ReadCondition r (on_line l z)
+  condition_short (Ok e) (Ok k) h = (e, refl, h.1)
   condition_short (Ok e) (Err f) h = absurd h
   condition_short (Err g) (Ok k) h = absurd h
   condition_short (Err g) (Err f) h = ap Err (sym h)
 
-  pub condition_read : (z : Result Expr (ℕ × ℕ)) (r : Result Condition ExpressionFault) → (255 < length line → r ≡ Err (LineTooLong l)) → (length line ≤ 255 → Answered l z r) → ReadCondition r (read_in line l z)
+  pub condition_read : (z : Result Expr (ℕ × ℕ)) (r : Result Condition ExpressionFault) → (255 < length line → r ≡ Err (LineTooLong l)) → (length line ≤ 255 → Answered line l z r) → ReadCondition r (read_in line l z)
   condition_read z r long short = by_length z (ReadCondition r) (λ h. subst (λ (x : Result Condition ExpressionFault). ReadCondition x (Err (described (LineTooLong l)))) (sym (long h)) refl) (λ h. condition_short z r (short h))

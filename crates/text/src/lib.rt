@@ -8,7 +8,7 @@ ghost use Rattle.text.specs.Classes.{class_of};
 mod scanner;
 
 use Class::{Blank as B, Digit as D, Letter as L, Mark as M, Other as O};
-pub use scanner::{Part, Token, Tokens, behind_comment, run, word_byte};
+pub use scanner::{Part, Token, Tokens, behind_comment, is, run, word_byte};
 
 #[derive(Clone, Copy, PartialEq, Eq, Debug)]
 pub enum Class {

@@ -1,5 +1,6 @@
 // The tokens of a line, pulled one by one.
 ghost use Rattle.std.specs.Prelude.{◌≡◌, suc, ◌-◌, ◌<◌, ◌≤◌, List, length, take, drop, Some};
+ghost use Rattle.std.specs.Str.{bytes_eq};
 ghost use Rattle.text.specs.Classes.{blank};
 ghost use Rattle.text.specs.Tokens.{Placed, word_byte, tokens_at, front, gap, between, word as word_of, run as run_of};
 ghost use Rattle.text.specs.Pulling.{part_of, bytes, place, placed, begins, in_comment, left, place_or, Pulls};
@@ -55,6 +56,13 @@ impl<'a> Token<'a> {
 // How long a name may be.
 const NAME_MAX: usize = 63;
 
+// Is `name` this word?
+pub fn is(name: &[u8], word: &[u8]) -> bool
+    ensures { result ≡ bytes_eq name.now word.now }
+{
+    name == word
+}
+
 fn blank_byte(b: u8) -> bool
     ensures { result ≡ blank b }
 {
@@ -75,14 +83,14 @@ fn word<'a>(part: Part<'a>) -> Token<'a>
     ensures part { part_of result ≡ part.entry }
 {
     if class_of(part.text[0]) == Class::Digit {
-        if part.text == b"0".as_slice() {
+        if is(part.text, b"0") {
             Token::Zero(part)
-        } else if part.text == b"1".as_slice() {
+        } else if is(part.text, b"1") {
             Token::One(part)
         } else {
             Token::Other(part)
         }
-    } else if part.text == b"defined".as_slice() {
+    } else if is(part.text, b"defined") {
         Token::Defined(part)
     } else if part.text.len() <= NAME_MAX {
         Token::Name(part)

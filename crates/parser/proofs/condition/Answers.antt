@@ -30,7 +30,7 @@ returns-in_err-complete c =
     record {
       long = λ h. absurd (omega (arith, c.in_ok-parser.ensures.begun.0));
       reads = λ h.
-          subst (λ (y : Result Condition ExpressionFault). Answered o.number (condition_at o.comments o.line.now o.from) y) (sym e)
+          subst (λ (y : Result Condition ExpressionFault). Answered o.line.now o.number (condition_at o.comments o.line.now o.from) y) (sym e)
           (refused_answer o.line.now (tokens_at o.comments o.line.now o.from) o.number c.in_ok-parser.parser c.complete.new.self
           b.ahead b.line b.number b.written f c.in_err-complete.ensures);
       grammar = λ h.
@@ -52,10 +52,10 @@ returns c =
       long = λ h. absurd (omega (arith, c.in_ok-parser.ensures.begun.0));
       reads = λ h.
           answered o.line.now (tokens_at o.comments o.line.now o.from) o.number c.in_ok-parser.parser c.complete.new.self
-          b.ahead b.line b.number b.written (record { steps = c.complete.new.self.steps }) refl c.in_ok-complete.ensures;
+          b.ahead b.line b.number b.written (record { line = o.line; steps = c.complete.new.self.steps }) refl refl c.in_ok-complete.ensures;
       grammar = λ h.
           conforms o.line.now (tokens_at o.comments o.line.now o.from) o.number c.in_ok-parser.parser c.complete.new.self
-          b.ahead b.line b.number b.written (record { steps = c.complete.new.self.steps }) refl c.in_ok-complete.ensures;
+          b.ahead b.line b.number b.written (record { line = o.line; steps = c.complete.new.self.steps }) refl refl c.in_ok-complete.ensures;
       exact = exact;
       one = one_only;
       place = at_first;
