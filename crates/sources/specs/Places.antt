@@ -2,7 +2,7 @@
 --   Placed          a line and its place: its number, whether it begins inside a block comment, and whether it is the source's last
 --   placed c n ls   the lines from number n on, where the first begins inside a block comment (c) or in code
 --   placed_of p      the line that the code's line p is
---   left_of s       the lines that the code's lines s still hold
+--   left_of s       the lines that the code's lines s still hold, behind the line before them
 use Rattle.std.specs.Prelude.{ℕ, suc, Bool, List, [], ◌∷◌}
 use Rattle.text.specs.Tokens.{Bytes}
 use Rattle.scanning.specs.Modes.{open_after}
@@ -24,4 +24,4 @@ abbrev pub placed_of : SourceLine → Placed
 placed_of p = record { text = p.text.now; number = p.number; in_comment = p.in_comment; last = p.last }
 
 abbrev pub left_of : SourceLines → List Placed
-left_of s = placed s.in_comment s.number (lines s.rest.0.now)
+left_of s = placed (open_after s.in_comment s.before.now) s.number (lines s.rest.0.now)

@@ -14,11 +14,13 @@ pub struct SourceLine<'a> {
     pub last: bool,
 }
 
-// The lines of a source that are still to come, and the place of the first of them.
+// The lines of a source that are still to come, the number of the first of them, and the line before it, which is scanned
+// only when the next one is asked for: whoever refuses a line asks for no more.
 #[derive(Drop)]
 pub struct SourceLines<'a> {
     rest: Lines<'a>,
     number: usize,
+    before: &'a [u8],
     in_comment: bool,
     ghost countable: { number + length (lines rest.0.now) ≤ 2 ^ 63 },
 }
@@ -33,6 +35,7 @@ impl<'a> SourceLines<'a> {
         SourceLines {
             rest: Lines(source),
             number: 1,
+            before: &[],
             in_comment: false,
         }
     }
@@ -50,6 +53,8 @@ impl<'a> Iterator for SourceLines<'a> {
 
     fn next(&mut self) -> Option<SourceLine<'a>> {
         let text = self.rest.next()?;
+        self.in_comment = open_after(self.in_comment, self.before);
+        self.before = text;
         let line = SourceLine {
             text,
             number: self.number,
@@ -57,7 +62,6 @@ impl<'a> Iterator for SourceLines<'a> {
             last: self.rest.0.is_empty(),
         };
         self.number += 1;
-        self.in_comment = open_after(self.in_comment, text);
         Some(line)
     }
 }
