@@ -7,22 +7,20 @@ ghost use Rattle.checking.specs.Ends.{Ends};
 
 use judging::judge;
 use reporting::refuse;
-use std::io::Read;
 use std::process::ExitCode;
 use stores::in_words::InWords;
 
-// Judges the rule lines on standard input with a store in the words. For every switch in order it prints whether the rules leave it free, force it
-// on or force it off, then the lowest allowed configuration; or the one line of a refusal, with status 1.
+// Judges a rule text with a store in the words. For every switch in order it prints whether the rules leave it free, force it on or force it
+// off, then the lowest allowed configuration; or the one line of a refusal, with status 1.
+// The caller reads the text before it makes the words, so that these need no room beside a text that is still growing.
 pub fn check<'w, S: InWords<'w> + Drop>(
     rt: &HostRuntime,
+    text: &[u8],
     words: &'w mut [S::Word],
 ) -> anyhow::Result<ExitCode>
-    ensures { IfOk result (Ends S.Store S.lies_in S.due S.room S.renewed words.old) }
+    ensures { IfOk result (Ends S.Store S.lies_in S.due S.room S.renewed text.now words.old) }
 {
-    let heap = rt.alloc();
-    let mut text = Vec::new(heap);
-    rt.stdin().read_to_end(&mut text)?;
-    match judge::<S>(heap, text.as_slice(), words) {
+    match judge::<S>(rt.alloc(), text, words) {
         Ok(judgement) => {
             print!(rt; "{judgement}")?;
             Ok(ExitCode::SUCCESS)

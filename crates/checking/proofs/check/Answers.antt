@@ -3,9 +3,9 @@ use Rattle.std.proofs.lemmas.Result.{IfOk-weaker}
 use Rattle.checking.proofs.check.Goals as goal
 
 pub returns-in-Ok : goal.returns-in-Ok
-returns-in-Ok g c = inl (c.as_slice.result.now, c.in-Ok.judgement, c.in-Ok.ensures.judged, refl)
+returns-in-Ok g c = inl (c.in-Ok.judgement, c.in-Ok.ensures.judged, refl)
 
 pub returns : goal.returns
 returns g c =
     let f = c.in-Err.fault in
-    IfOk-weaker c.refuse.result _ _ (λ code e. inr (c.as_slice.result.now, f, c.in-Err.ensures.refused, subst IsSome c.refusal.ensures e.0, e.1)) c.refuse.ensures
+    IfOk-weaker c.refuse.result _ _ (λ code e. inr (f, c.in-Err.ensures.refused, subst IsSome c.refusal.ensures e.0, e.1)) c.refuse.ensures
