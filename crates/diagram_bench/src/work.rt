@@ -152,7 +152,7 @@ impl<S: Store> Counting<S> {
     }
 
     // An enum and no closure: a piece of work has a name that is printed, and is done again and again.
-    fn run(&mut self, work: Work) -> Result<u32, StoreFault> {
+    pub(crate) fn run(&mut self, work: Work) -> Result<u32, StoreFault> {
         match work {
             Work::Equivalences => self.equivalences(),
             Work::Majority => self.majority(),
@@ -160,14 +160,14 @@ impl<S: Store> Counting<S> {
         }
     }
 
-    // Does the work so many times. What it took is released before it is done again, and the last answer stays held.
-    pub(crate) fn repeat(&mut self, work: Work, rounds: u32) -> Result<u32, StoreFault> {
-        for _ in 1..rounds {
+    // The same work so many times, what it took released after each.
+    pub(crate) fn repeat(&mut self, work: Work, rounds: u32) -> Result<(), StoreFault> {
+        for _ in 0..rounds {
             let mark = self.store.mark();
             let answer = self.run(work);
             self.store.release(mark);
             let _ = answer?;
         }
-        self.run(work)
+        Ok(())
     }
 }
